@@ -1,0 +1,4 @@
+pub mod Row
+pub mod Sound
+pub mod Tree
+pub mod Records

@@ -1,0 +1,7 @@
+// Children, and the way up to the root.
+
+// The entry that a search finds.
+pub enum Found {
+    At(usize),
+    Nothing,
+}

@@ -1,0 +1,216 @@
+-- "Order for one command": the checks by name, in the paper's order, the word of each, and when each fails.
+use Prim.Native.Nat.{ℕ, _+_, _/_, _%_, _^_}
+use mathlib.Core.Bool.{Bool, true, false, not, _&&_, _||_}
+use mathlib.Core.List.{List, [], _∷_, _++_}
+use mathlib.Core.Option.{Option, none, some}
+use lib.ListN.{length}
+use lib.Dec.{leb, ltb, eqb}
+use Rattle.octets.specs.Choice.{pick}
+use Rattle.card.specs.declared.Row.{Row}
+use Rattle.card.specs.declared.tree.Found.{Found}
+use Rattle.card.specs.declared.tree.Found.the-variants.{At, Nothing}
+use Rattle.card.specs.Row.{isTransparent, isCyclic, hasRecords, isDeactivated}
+use Rattle.journal.specs.Changes.{cost}
+use Rattle.session.specs.declared.Session.{Session}
+use Rattle.command.specs.declared.Instruction.{Instruction}
+use Rattle.command.specs.declared.Instruction.the-variants.{Select, ReadBinary, UpdateBinary, ReadRecord, UpdateRecord, Search, Increase, GetResponse, Unknown}
+use Rattle.command.specs.declared.Command.{Command}
+use Rattle.command.specs.Instructions.{among, carriesData, isOutgoing, isSwitch, classOf, caseOf, noData, withFcp, neverBit}
+use Rattle.command.specs.Files.{File, modeNext, modePrevious, modeAbsolute, searchForward, searchBackward, absoluteRecord, hasRecord, sum}
+use Rattle.command.specs.Plans.{Situation, offsetOf, recordNamed, doneBy}
+
+pub data Check : Type 0 where
+  brokenForm unknownInstruction wrongClass bytesAfter wrongCase wrongParameters wrongDomain : Check
+  wrongPathLength notFound : Check
+  nothingWaits moreThanWaits : Check
+  noFile wrongKind wrongMode isShut isNever offsetOutside noRecord wrongLength sumTooLong journalFull : Check
+
+-- "broken form (too few bytes, no case's size) 6700; unknown instruction 6D00; class 6E00; compact B0, B2, C0 with bytes after it
+-- 6985; wrong case, Lc 0, or P3 of 04, 44, 6700; P1P2 6A86 ..; domain FF 6982 ..;"
+unfoldable pub formalChecks : List Check
+formalChecks =
+    brokenForm
+    ∷ unknownInstruction
+    ∷ wrongClass
+    ∷ bytesAfter
+    ∷ wrongCase
+    ∷ wrongParameters
+    ∷ wrongDomain
+    ∷ []
+
+-- "SELECT after the domain check: data length 6700, then 6A82."
+unfoldable pub selectChecks : List Check
+selectChecks = wrongPathLength ∷ notFound ∷ []
+
+-- "C0 likewise: nothing waiting 6985, P3 above what waits 6700."
+unfoldable pub responseChecks : List Check
+responseChecks = nothingWaits ∷ moreThanWaits ∷ []
+
+-- "no file 6986; kind .. 6981; DC on cyclic outside mode 03 6A86; deactivated 6984 ..; NEVER bit 6982; offset not below length
+-- 6B00, record 6A83; lengths against file or record 6700 ..; sum too long 9850; journal 6581."
+unfoldable pub fileChecks : List Check
+fileChecks =
+    noFile
+    ∷ wrongKind
+    ∷ wrongMode
+    ∷ isShut
+    ∷ isNever
+    ∷ offsetOutside
+    ∷ noRecord
+    ∷ wrongLength
+    ∷ sumTooLong
+    ∷ journalFull
+    ∷ []
+
+-- the checks behind the formal ones
+unfoldable pub laterChecks : Instruction → List Check
+laterChecks i = pick (among i (Select ∷ [])) selectChecks (pick (among i (GetResponse ∷ [])) responseChecks fileChecks)
+
+-- the whole order for an instruction
+unfoldable pub order : Instruction → List Check
+order i = formalChecks ++ laterChecks i
+
+-- the word of each check
+unfoldable pub checkWord : Check → ℕ
+checkWord brokenForm = 0x6700
+checkWord unknownInstruction = 0x6D00
+checkWord wrongClass = 0x6E00
+checkWord bytesAfter = 0x6985
+checkWord wrongCase = 0x6700
+checkWord wrongParameters = 0x6A86
+checkWord wrongDomain = 0x6982
+checkWord wrongPathLength = 0x6700
+checkWord notFound = 0x6A82
+checkWord nothingWaits = 0x6985
+checkWord moreThanWaits = 0x6700
+checkWord noFile = 0x6986
+checkWord wrongKind = 0x6981
+checkWord wrongMode = 0x6A86
+checkWord isShut = 0x6984
+checkWord isNever = 0x6982
+checkWord offsetOutside = 0x6B00
+checkWord noRecord = 0x6A83
+checkWord wrongLength = 0x6700
+checkWord sumTooLong = 0x9850
+checkWord journalFull = 0x6581
+
+unfoldable pub isUnknown : Instruction → Bool
+isUnknown i = among i (Unknown ∷ [])
+
+-- "wrong case, Lc 0"
+unfoldable pub caseFits : Command → List ℕ → Bool
+caseFits c «data» =
+    eqb (c .case) (caseOf (c .instruction) (c .p2))
+    && not (carriesData (c .instruction) && eqb (length «data») 0)
+
+-- "P1P2"
+unfoldable pub parametersFit : Instruction → ℕ → ℕ → Bool
+parametersFit i p1 p2 =
+    pick (among i (Select ∷ []))
+    ((eqb p1 0x00 || (eqb p1 0x08 || eqb p1 0x09)) && (eqb p2 noData || eqb p2 withFcp))
+    (pick (among i (ReadBinary ∷ UpdateBinary ∷ []))
+    (leb p1 0x7F)
+    (pick (among i (ReadRecord ∷ UpdateRecord ∷ []))
+    (eqb p2 modeAbsolute || ((eqb p2 modeNext || eqb p2 modePrevious) && eqb p1 0x00))
+    (pick (among i (Search ∷ []))
+    (eqb p2 searchForward || eqb p2 searchBackward)
+    (eqb p1 0x00 && eqb p2 0x00))))
+
+-- "domain FF 6982 (C0 exempt)"
+unfoldable pub domainFits : Instruction → ℕ → Bool
+domainFits i domain = among i (GetResponse ∷ []) || not (eqb domain 0xFF)
+
+-- "P1 00: two bytes", else "1 to 8 identifiers"
+unfoldable pub pathLengthFits : ℕ → ℕ → Bool
+pathLengthFits p1 n = pick (eqb p1 0) (eqb n 2) (eqb (n % 2) 0 && (leb 2 n && leb n 16))
+
+unfoldable pub isNothing : Found → Bool
+isNothing (At e) = false
+isNothing Nothing = true
+
+-- "INCREASE, .. record length at most 127"
+abbrev pub longestIncrease : ℕ
+longestIncrease = 127
+
+-- "kind (INCREASE: or record above 127)"
+unfoldable pub kindFits : Instruction → Row → Bool
+kindFits i r =
+    pick (among i (ReadBinary ∷ UpdateBinary ∷ []))
+    (isTransparent r)
+    (pick (among i (ReadRecord ∷ UpdateRecord ∷ Search ∷ []))
+    (hasRecords r)
+    (pick (among i (Increase ∷ [])) (isCyclic r && leb (r .«record») longestIncrease) true))
+
+-- "DC on cyclic: mode 03 only"
+unfoldable pub modeFits : Instruction → ℕ → Row → Bool
+modeFits i p2 r = not (among i (UpdateRecord ∷ []) && isCyclic r) || eqb p2 modePrevious
+
+-- "deactivated 6984 (04, 44 exempt)"
+unfoldable pub stateFits : Instruction → Row → Bool
+stateFits i r = isSwitch i || not (isDeactivated r)
+
+-- whether a NEVER byte has a bit
+unfoldable pub hasBit : ℕ → ℕ → Bool
+hasBit never bit = eqb (never / bit % 2) 1
+
+-- "offset not below length"
+unfoldable pub offsetFits : Instruction → Command → Row → Bool
+offsetFits i c r = not (among i (ReadBinary ∷ UpdateBinary ∷ [])) || ltb (offsetOf c) (r .size)
+
+-- "record 6A83"; DC on cyclic writes the oldest place, whatever the record number
+unfoldable pub recordFits : Instruction → Command → Session → File → Bool
+recordFits i c s f =
+    pick (among i (ReadRecord ∷ []))
+    (hasRecord (f .row) (recordNamed c s f))
+    (pick (among i (UpdateRecord ∷ []))
+    (isCyclic (f .row) || hasRecord (f .row) (recordNamed c s f))
+    (pick (among i (Search ∷ [])) (hasRecord (f .row) (absoluteRecord (c .p1) (s .number))) true))
+
+-- "P3 of B2 is 00 or the record length; Lc of DC is the record length"; "lengths against file or record 6700 (INCREASE, SEARCH: Lc
+-- above record length)"
+unfoldable pub lengthFits : Instruction → Command → ℕ → Row → Bool
+lengthFits i c lc r =
+    pick (among i (UpdateBinary ∷ []))
+    (leb (offsetOf c + lc) (r .size))
+    (pick (among i (ReadRecord ∷ []))
+    (eqb (c .p3) 0 || eqb (c .p3) (r .«record»))
+    (pick (among i (UpdateRecord ∷ []))
+    (eqb lc (r .«record»))
+    (pick (among i (Search ∷ Increase ∷ [])) (leb lc (r .«record»)) true)))
+
+-- "sum too long": it has no room in the record's bytes
+unfoldable pub sumFits : Instruction → File → List ℕ → Bool
+sumFits i f «data» = not (among i (Increase ∷ [])) || ltb (sum f «data») (256 ^ f .row .«record»)
+
+-- "6581 exactly when U would pass 2,044"
+unfoldable pub journalFits : Situation → Bool
+journalFits w = leb (w .file .used + cost (doneBy (w .command .instruction) w .writes)) (w .file .room)
+
+-- whether a check holds in a situation
+unfoldable pub holds : Situation → Check → Bool
+holds w brokenForm = w .command .whole
+holds w unknownInstruction = not (isUnknown (w .command .instruction))
+holds w wrongClass = eqb (w .command .class) (classOf (w .command .instruction))
+holds w bytesAfter = not (isOutgoing (w .command .instruction) && w .command .after)
+holds w wrongCase = caseFits (w .command) (w .«data»)
+holds w wrongParameters = parametersFit (w .command .instruction) (w .command .p1) (w .command .p2)
+holds w wrongDomain = domainFits (w .command .instruction) (w .domain)
+holds w wrongPathLength = pathLengthFits (w .command .p1) (length (w .«data»))
+holds w notFound = not (isNothing (w .found))
+holds w nothingWaits = leb 1 (w .session .valid)
+holds w moreThanWaits = leb (w .command .p3) (w .session .valid)
+holds w noFile = leb 1 (w .session .file)
+holds w wrongKind = kindFits (w .command .instruction) (w .file .row)
+holds w wrongMode = modeFits (w .command .instruction) (w .command .p2) (w .file .row)
+holds w isShut = stateFits (w .command .instruction) (w .file .row)
+holds w isNever = not (hasBit (w .file .row .never) (neverBit (w .command .instruction)))
+holds w offsetOutside = offsetFits (w .command .instruction) (w .command) (w .file .row)
+holds w noRecord = recordFits (w .command .instruction) (w .command) (w .session) (w .file)
+holds w wrongLength = lengthFits (w .command .instruction) (w .command) (length (w .«data»)) (w .file .row)
+holds w sumTooLong = sumFits (w .command .instruction) (w .file) (w .«data»)
+holds w journalFull = journalFits w
+
+-- the first check of a list that does not hold
+unfoldable pub firstFailing : Situation → List Check → Option Check
+firstFailing w [] = none
+firstFailing w (k ∷ ks) = pick (holds w k) (firstFailing w ks) (some k)

@@ -1,0 +1,6 @@
+pub mod Instructions
+pub mod Outcomes
+pub mod Files
+pub mod Plans
+pub mod Checks
+pub mod Commands

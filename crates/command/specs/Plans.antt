@@ -1,0 +1,132 @@
+-- What each command does where it ends well.
+use Prim.Native.Nat.{ℕ, _+_, _-_, _*_, min}
+use mathlib.Core.List.{List, [], _∷_, _++_}
+use lib.Dec.{leb, eqb}
+use Rattle.octets.specs.Choice.{pick}
+use Rattle.octets.specs.Bytes.{bytesOf}
+use Rattle.card.specs.declared.Row.{Row}
+use Rattle.card.specs.declared.tree.Found.{Found}
+use Rattle.card.specs.declared.tree.Found.the-variants.{At, Nothing}
+use Rattle.card.specs.Row.{rowOf, isCyclic, isDeactivated, activated, deactivated, placeOfState}
+use Rattle.card.specs.Records.{recordOffset}
+use Rattle.journal.specs.Changes.{Write, tableMemory}
+use Rattle.session.specs.declared.Session.{Session}
+use Rattle.session.specs.Session.{atRecord, selected}
+use Rattle.session.specs.Fcp.{fcp}
+use Rattle.command.specs.declared.Format.{Format}
+use Rattle.command.specs.declared.Format.the-variants.{Compact, Expanded}
+use Rattle.command.specs.declared.Instruction.{Instruction}
+use Rattle.command.specs.declared.Instruction.the-variants.{Select, ReadBinary, UpdateBinary, ReadRecord, UpdateRecord, Search, Increase, Deactivate, Activate, GetResponse, Unknown}
+use Rattle.command.specs.declared.Command.{Command}
+use Rattle.command.specs.declared.Outcome.the-variants.{FromWaiting}
+use Rattle.command.specs.Instructions.{noData}
+use Rattle.command.specs.Outcomes.{Plan, failed, done, handed, produced, normal, endOfData, selectedDeactivated}
+use Rattle.command.specs.Files.{File, namedRecord, numberAfter, absoluteRecord, foundRecords, sum, writeIn, newRecord}
+
+-- the situation that a command is given in: the format, the access domain, the command with its data, the session, the table,
+-- the entry that a SELECT finds, and what is seen of the current file
+pub record Situation : Type 0 where
+  pub format : Format
+  pub domain : ℕ
+  pub command : Command
+  pub «data» : List ℕ
+  pub session : Session
+  pub table : List ℕ
+  pub found : Found
+  pub file : File
+
+-- "A deactivated file gives 6283."
+unfoldable pub selectWord : Row → ℕ
+selectWord r = pick (isDeactivated r) selectedDeactivated normal
+
+-- SELECT of an entry
+unfoldable pub selectEntry : Format → Session → ℕ → ℕ → Row → Plan
+selectEntry format s p2 e r =
+    pick (eqb p2 noData)
+    (done (selected s e r) (selectWord r) [])
+    (produced format (selected s e r) (selectWord r) (fcp r) [])
+
+unfoldable pub select : Format → Session → ℕ → List ℕ → Found → Plan
+select format s p2 t (At e) = selectEntry format s p2 e (rowOf t e)
+select format s p2 t Nothing = failed s 0x6A82
+
+-- "offset P1P2"
+unfoldable pub offsetOf : Command → ℕ
+offsetOf c = c .p1 * 256 + c .p2
+
+-- "P3 00: to the end, at most 256."
+unfoldable pub mostRead : Format → ℕ
+mostRead Compact = 256
+mostRead Expanded = 256
+
+-- "B0 READ BINARY, offset P1P2: P3 bytes, or the bytes left with 6282 if fewer. P3 00: to the end, at most 256."
+unfoldable pub readBinary : Format → Command → Session → File → Plan
+readBinary format c s f =
+    let place : ℕ = f .row .start + offsetOf c in
+    let left : ℕ = f .row .size - offsetOf c in
+    pick (eqb (c .p3) 0)
+    (handed s normal place (min left (mostRead format)))
+    (pick (leb (c .p3) left) (handed s normal place (c .p3)) (handed s endOfData place left))
+
+-- "D6 UPDATE BINARY writes only the named bytes in the file's own part of the memory."
+unfoldable pub updateBinary : Command → List ℕ → Session → File → Plan
+updateBinary c «data» s f = done s normal (writeIn f (offsetOf c) «data» ∷ [])
+
+-- the record that a command names
+abbrev pub recordNamed : Command → Session → File → ℕ
+recordNamed c s f = namedRecord (f .row) (c .p1) (c .p2) (s .number)
+
+-- B2 and DC: the record number after a record was named
+unfoldable pub atNamed : Command → Session → File → Session
+atNamed c s f = atRecord s (numberAfter (c .p2) (s .number) (recordNamed c s f))
+
+-- B2 READ RECORD
+unfoldable pub readRecord : Command → Session → File → Plan
+readRecord c s f =
+    handed (atNamed c s f) normal (f .row .start + recordOffset (f .row) (recordNamed c s f)) (f .row .«record»)
+
+-- DC UPDATE RECORD; "on cyclic: .. it writes the oldest place, which becomes newest, record number 1"
+unfoldable pub updateRecord : Command → List ℕ → Session → File → Plan
+updateRecord c «data» s f =
+    pick (isCyclic (f .row))
+    (done (atRecord s 1) normal (newRecord f «data»))
+    (done (atNamed c s f) normal (writeIn f (recordOffset (f .row) (recordNamed c s f)) «data» ∷ []))
+
+-- A2 SEARCH: "the first becomes current. None: 6282, no data."
+unfoldable pub searched : Format → Session → List ℕ → Plan
+searched format s [] = done s endOfData []
+searched format s (r ∷ rs) = produced format (atRecord s r) normal (r ∷ rs) []
+
+unfoldable pub search : Format → Command → List ℕ → Session → File → Plan
+search format c «data» s f =
+    searched format s (foundRecords f (c .p2) «data» (absoluteRecord (c .p1) (s .number)))
+
+-- "32 INCREASE, ..: record 1 plus the data becomes the new record 1, as DC would. Data: new record, then the added bytes."
+unfoldable pub increase : Format → List ℕ → Session → File → Plan
+increase format «data» s f =
+    let new : List ℕ = bytesOf (f .row .«record») (sum f «data») in
+    produced format (atRecord s 1) normal (new ++ «data») (newRecord f new)
+
+-- "04, 44 .. deactivate, activate the current file; repeating it is 9000, journalled too."
+unfoldable pub switch : ℕ → Session → File → Plan
+switch state s f =
+    done s normal (record { memory = tableMemory; place = placeOfState (f .entry); new = state ∷ [] } ∷ [])
+
+-- "C0 GET RESPONSE (compact): the first P3 waiting bytes, 00 all, with the kept word."
+unfoldable pub getResponse : Command → Session → Plan
+getResponse c s =
+    record { session = s; outcome = FromWaiting (s .kept) (pick (eqb (c .p3) 0) (s .valid) (c .p3)); writes = [] }
+
+-- what an instruction does in a situation where every check holds
+unfoldable pub doneBy : Instruction → Situation → Plan
+doneBy Select w = select (w .format) (w .session) (w .command .p2) (w .table) (w .found)
+doneBy ReadBinary w = readBinary (w .format) (w .command) (w .session) (w .file)
+doneBy UpdateBinary w = updateBinary (w .command) (w .«data») (w .session) (w .file)
+doneBy ReadRecord w = readRecord (w .command) (w .session) (w .file)
+doneBy UpdateRecord w = updateRecord (w .command) (w .«data») (w .session) (w .file)
+doneBy Search w = search (w .format) (w .command) (w .«data») (w .session) (w .file)
+doneBy Increase w = increase (w .format) (w .«data») (w .session) (w .file)
+doneBy Deactivate w = switch deactivated (w .session) (w .file)
+doneBy Activate w = switch activated (w .session) (w .file)
+doneBy GetResponse w = getResponse (w .command) (w .session)
+doneBy Unknown w = failed (w .session) 0x6D00

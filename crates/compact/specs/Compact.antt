@@ -1,0 +1,119 @@
+-- "Compact": reading a script command by command, running it, and the answer.
+use Prim.Native.Nat.{ℕ, zero, suc, _+_}
+use mathlib.Core.Bool.{Bool, true, false, not, _&&_}
+use mathlib.Core.List.{List, _∷_, _++_}
+use lib.ListN.{length}
+use lib.Dec.{leb, ltb, eqb}
+use Rattle.octets.specs.Choice.{pick}
+use Rattle.octets.specs.Bytes.{byte, bytes2, part}
+use Rattle.card.specs.Row.{Card}
+use Rattle.session.specs.Session.{start}
+use Rattle.command.specs.declared.Format.the-variants.{Compact}
+use Rattle.command.specs.declared.Instruction.{Instruction}
+use Rattle.command.specs.declared.Instruction.the-variants.{Unknown}
+use Rattle.command.specs.declared.Command.{Command}
+use Rattle.command.specs.declared.Reading.{Reading}
+use Rattle.command.specs.declared.Outcome.the-variants.{Well}
+use Rattle.command.specs.Instructions.{instructionOf, carriesData, caseOf}
+use Rattle.command.specs.Outcomes.{normal, wordOf, dataOf, goesOn}
+use Rattle.command.specs.Commands.{State, started, Moved, planned, situation, carriedOut, stepped}
+
+-- "Five-byte headers"
+abbrev pub headerSize : ℕ
+headerSize = 5
+
+-- "04 and 44 need P3 00": with another P3 they have the form of case 2
+unfoldable pub compactCase : Instruction → ℕ → ℕ → ℕ
+compactCase i p2 p3 = pick (eqb (caseOf i p2) 1 && not (eqb p3 0)) 2 (caseOf i p2)
+
+-- how many data bytes stand behind a header
+unfoldable pub dataBehind : Instruction → ℕ → ℕ
+dataBehind i p3 = pick (carriesData i) p3 0
+
+-- "Too few bytes: 6700, counted."
+unfoldable pub broken : List ℕ → Reading
+broken script =
+    record {
+      command =
+          record {
+            whole = false;
+            class = 0;
+            instruction = Unknown;
+            p1 = 0;
+            p2 = 0;
+            p3 = 0;
+            case = 0;
+            after = false;
+          };
+      from = length script;
+      count = 0;
+    }
+
+-- a command of which header and data are there
+unfoldable pub wholeAt : List ℕ → ℕ → Instruction → ℕ → Reading
+wholeAt script at i count =
+    record {
+      command =
+          record {
+            whole = true;
+            class = byte script at;
+            instruction = i;
+            p1 = byte script (at + 2);
+            p2 = byte script (at + 3);
+            p3 = byte script (at + 4);
+            case = compactCase i (byte script (at + 3)) (byte script (at + 4));
+            after = ltb (at + headerSize + count) (length script);
+          };
+      from = at + headerSize;
+      count = count;
+    }
+
+-- the command whose header is there, with its data
+unfoldable pub headedAt : List ℕ → ℕ → Reading
+headedAt script at =
+    let i : Instruction = instructionOf (byte script (at + 1)) in
+    let count : ℕ = dataBehind i (byte script (at + 4)) in
+    pick (leb (at + headerSize + count) (length script)) (wholeAt script at i count) (broken script)
+
+-- the command that stands at a place of a script
+unfoldable pub readAt : List ℕ → ℕ → Reading
+readAt script at = pick (leb (at + headerSize) (length script)) (headedAt script at) (broken script)
+
+-- the place after it
+unfoldable pub placeAfter : Reading → ℕ
+placeAfter r = r .from + r .count
+
+-- a script's state after the command that stands at a place
+unfoldable pub stepAt : List ℕ → ℕ → ℕ → State → State
+stepAt script domain at st =
+    let r : Reading = readAt script at in
+    stepped st
+    (carriedOut
+    (planned (situation Compact domain (r .command) (part script (r .from) (r .count)) (st .step .session) (st .card)))
+    (st .card))
+
+-- the state after the script's commands from a place on, n of them at most: a script ends where it has no more bytes, or
+-- with a command whose word does not go on
+unfoldable pub runFrom : ℕ → List ℕ → ℕ → ℕ → State → State
+runFrom zero script domain at st = st
+runFrom (suc n) script domain at st =
+    elim (ltb at (length script)) [
+      | true ↦
+          let next : State = stepAt script domain at st in
+          elim (goesOn (wordOf (next .step .outcome))) [
+            | true ↦ runFrom n script domain (placeAfter (readAt script at)) next
+            | false ↦ next
+          ]
+      | false ↦ st
+    ]
+
+-- a whole script; each command takes a byte or more
+unfoldable pub run : List ℕ → ℕ → ℕ → Card → State
+run script application domain card = runFrom (length script) script domain 0 (started application card)
+
+-- "Answer: count, status, data of a last outgoing command."
+unfoldable pub answer : State → List ℕ
+answer st =
+    st .step .count
+    ∷ (bytes2 (wordOf (st .step .outcome))
+    ++ dataOf (st .step .outcome) (st .card .files) (st .step .session .waiting))

@@ -1,0 +1,65 @@
+-- The three calls, as functions from card and arguments to answer, card and response memory.
+use Prim.Native.Nat.{ℕ}
+use mathlib.Core.Bool.{Bool, true, false}
+use mathlib.Core.List.{List, []}
+use lib.ListN.{length}
+use lib.Dec.{eqb}
+use Rattle.octets.specs.Bytes.{overwrite}
+use Rattle.card.specs.Row.{Card}
+use Rattle.journal.specs.Changes.{withJournal, marked, takenBack, confirmed}
+use Rattle.command.specs.declared.Format.{Format}
+use Rattle.command.specs.declared.Format.the-variants.{Compact, Expanded}
+use Rattle.command.specs.Commands.{State}
+use Rattle.compact.specs.Compact as compact
+use Rattle.expanded.specs.Expanded as expanded
+use Rattle.expanded.specs.Expanded.{Progress}
+use Rattle.expanded.specs.declared.Template.{Template}
+use Rattle.expanded.specs.Templates.{templateOf}
+use Rattle.engine.specs.declared.Answer.{Answer}
+use Rattle.engine.specs.Numbers.{Arguments, formatOf, firstGiven, runRefusals, takeBackRefusals, confirmRefusals}
+
+-- what a call gives: its answer, the card after it, and the response memory after it
+pub record Result : Type 0 where
+  pub answer : Answer
+  pub card : Card
+  pub response : List ℕ
+
+-- "All return length 0 and count 0 and change no lent byte."
+unfoldable pub untouched : ℕ → Card → List ℕ → Result
+untouched number c response = record { answer = record { number = number; length = 0; count = 0 }; card = c; response = response }
+
+-- an accepted run: "Response memory after the answer's last byte keeps its content."
+unfoldable pub accepted : State → List ℕ → List ℕ → Result
+accepted st answer response =
+    record {
+      answer = record { number = 0; length = length answer; count = st .step .count };
+      card = st .card;
+      response = overwrite response 0 answer;
+    }
+
+-- a call that is done where no number is given
+unfoldable pub unlessRefused : ℕ → Card → List ℕ → Result → Result
+unlessRefused number c response r = elim (eqb number 0) [ true ↦ r | false ↦ untouched number c response ]
+
+-- a script of a format, on a card whose journal has the script's mark
+unfoldable pub runScript : Format → Arguments → Card → Result
+runScript Compact a c =
+    let st : State = compact.run (a .script) (a .application) (a .domain) c in
+    accepted st (compact.answer st) (a .response)
+runScript Expanded a c =
+    let template : Template = templateOf (a .script) in
+    let p : Progress = expanded.run template (a .script) (a .application) (a .domain) c in
+    accepted (p .state) (expanded.answer template p) (a .response)
+
+-- a run
+unfoldable pub run : Arguments → Card → Result
+run a c =
+    unlessRefused (firstGiven (runRefusals c a)) c (a .response)
+    (runScript (formatOf (a .format)) a (withJournal c (marked (c .journal))))
+
+-- "a take-back or confirmation has length and count 0"; neither is lent response memory
+unfoldable pub takeBack : Card → Result
+takeBack c = unlessRefused (firstGiven (takeBackRefusals c)) c [] (untouched 0 (takenBack c) [])
+
+unfoldable pub confirm : Card → Result
+confirm c = unlessRefused (firstGiven (confirmRefusals c)) c [] (untouched 0 (confirmed c) [])

@@ -1,0 +1,95 @@
+-- "Call numbers. Checked in this order."
+use Prim.Native.Nat.{ℕ, _+_}
+use mathlib.Core.Bool.{Bool, true, false, not, _&&_, _||_}
+use mathlib.Core.List.{List, [], _∷_}
+use lib.ListN.{length}
+use lib.Dec.{leb, ltb, eqb}
+use Rattle.octets.specs.Choice.{pick}
+use Rattle.card.specs.Row.{Card, entries, rowOf, isADF}
+use Rattle.journal.specs.Entries.{usedBytes, scriptsOnTrial, room, entryBytes}
+use Rattle.journal.specs.Sound.{mostScripts, soundCard}
+use Rattle.command.specs.declared.Format.{Format}
+use Rattle.command.specs.declared.Format.the-variants.{Compact, Expanded}
+use Rattle.expanded.specs.declared.Template.{Template}
+use Rattle.expanded.specs.declared.Template.the-variants.{Definite, Indefinite, Missing}
+use Rattle.expanded.specs.Templates.{templateOf}
+
+-- what a run is called with besides the card
+pub record Arguments : Type 0 where
+  pub application : ℕ
+  pub domain : ℕ
+  pub format : ℕ
+  pub script : List ℕ
+  pub response : List ℕ
+
+-- a call's number and whether what it stands for holds
+pub record Refusal : Type 0 where
+  pub number : ℕ
+  pub given : Bool
+
+-- the format of a number, 0 (compact) or 1 (expanded)
+unfoldable pub formatOf : ℕ → Format
+formatOf format = pick (eqb format 0) Compact Expanded
+
+-- "format not 0 (compact) or 1 (expanded); or application neither 0 (shared files) nor an ADF's entry number; or access domain
+-- neither 00 nor FF"
+unfoldable pub argumentsFit : List ℕ → Arguments → Bool
+argumentsFit t a =
+    leb (a .format) 1
+    && ((eqb (a .application) 0 || (ltb (a .application) (entries t) && isADF (rowOf t (a .application))))
+    && (eqb (a .domain) 0x00 || eqb (a .domain) 0xFF))
+
+-- "script length not 1 to 1,024"
+abbrev pub longestScript : ℕ
+longestScript = 1024
+
+unfoldable pub scriptFits : List ℕ → Bool
+scriptFits script = leb 1 (length script) && leb (length script) longestScript
+
+-- "response memory below 1,024 bytes"
+unfoldable pub leastResponse : Format → ℕ
+leastResponse Compact = 1024
+leastResponse Expanded = 1024
+
+-- "16 scripts on trial, or U + 8 above 2,044": a mark has no room
+unfoldable pub markFits : List ℕ → Bool
+markFits j = ltb (scriptsOnTrial j) mostScripts && leb (usedBytes j + entryBytes 0) (room j)
+
+unfoldable pub isMissing : Template → Bool
+isMissing (Definite at end) = false
+isMissing (Indefinite at end) = false
+isMissing Missing = true
+
+-- "expanded, and no template as below"
+unfoldable pub templateFits : Format → List ℕ → Bool
+templateFits Compact script = true
+templateFits Expanded script = not (isMissing (templateOf script))
+
+-- the first number that is given, and 0 where none is
+unfoldable pub firstGiven : List Refusal → ℕ
+firstGiven [] = 0
+firstGiven (r ∷ rs) = pick (r .given) (r .number) (firstGiven rs)
+
+-- 1: "table, file memory or journal not sound"
+unfoldable pub notSound : Card → Refusal
+notSound c = record { number = 1; given = not (soundCard c) }
+
+-- "A run meets 1-6"
+unfoldable pub runRefusals : Card → Arguments → List Refusal
+runRefusals c a =
+    notSound c
+    ∷ record { number = 2; given = not (argumentsFit (c .table) a) }
+    ∷ record { number = 3; given = not (scriptFits (a .script)) }
+    ∷ record { number = 4; given = ltb (length (a .response)) (leastResponse (formatOf (a .format))) }
+    ∷ record { number = 5; given = not (markFits (c .journal)) }
+    ∷ record { number = 6; given = not (templateFits (formatOf (a .format)) (a .script)) }
+    ∷ []
+
+-- "a take-back 1 and 7"
+unfoldable pub takeBackRefusals : Card → List Refusal
+takeBackRefusals c =
+    notSound c ∷ record { number = 7; given = eqb (scriptsOnTrial (c .journal)) 0 } ∷ []
+
+-- "a confirmation 1"
+unfoldable pub confirmRefusals : Card → List Refusal
+confirmRefusals c = notSound c ∷ []

@@ -1,0 +1,135 @@
+-- "Expanded": R-APDUs, the 1,000-byte rule, running a script, and the answer.
+use Prim.Native.Nat.{ℕ, zero, suc, _+_}
+use mathlib.Core.Bool.{Bool, true, false, not, _||_}
+use mathlib.Core.List.{List, [], _∷_, _++_}
+use lib.ListN.{length}
+use lib.Dec.{ltb, eqb}
+use Rattle.octets.specs.Choice.{pick}
+use Rattle.octets.specs.Bytes.{byte, bytes2, part}
+use Rattle.card.specs.Row.{Card}
+use Rattle.session.specs.declared.Session.{Session}
+use Rattle.command.specs.declared.Format.the-variants.{Expanded}
+use Rattle.command.specs.declared.Reading.{Reading}
+use Rattle.command.specs.declared.Outcome.{Outcome}
+use Rattle.command.specs.declared.Step.{Step}
+use Rattle.command.specs.Outcomes.{Plan, failed, wordOf, dataOf, dataCount, goesOn}
+use Rattle.command.specs.Commands.{State, started, Moved, planned, situation, carriedOut, stepped}
+use Rattle.expanded.specs.declared.Template.{Template}
+use Rattle.expanded.specs.declared.Template.the-variants.{Definite, Indefinite, Missing}
+use Rattle.expanded.specs.declared.Item.{Item}
+use Rattle.expanded.specs.declared.Item.the-variants.{Capdu, Bad, End}
+use Rattle.expanded.specs.Lengths.{lengthBytes, countBytes}
+use Rattle.expanded.specs.Templates.{itemAt}
+use Rattle.expanded.specs.Capdu.{capduCommand}
+
+-- "R-APDU: 23, length, data, status."
+unfoldable pub rapdu : List ℕ → ℕ → List ℕ
+rapdu d word = 0x23 ∷ (lengthBytes (length d + 2) ++ (d ++ bytes2 word))
+
+-- how many bytes an R-APDU takes whose data are n bytes
+unfoldable pub rapduSize : ℕ → ℕ
+rapduSize n = 1 + (length (lengthBytes (n + 2)) + (n + 2))
+
+-- "Bad format TLV 90 01"
+unfoldable pub badFormat : ℕ → List ℕ
+badFormat code = 0x90 ∷ 1 ∷ code ∷ []
+
+-- "R-APDUs of case 2 and 4 commands (by size)" under AA, "all R-APDUs" under AE
+unfoldable pub keeps : Bool → ℕ → Bool
+keeps definite case = not definite || (eqb case 2 || eqb case 4)
+
+-- "would pass 1,000 bytes"
+abbrev pub mostKept : ℕ
+mostKept = 1000
+
+-- "If R-APDUs kept so far and this one (0 for AA and case 1 or 3 or a bad size) would pass 1,000 bytes, the command changes
+-- nothing, gets 6F00 and stops."
+unfoldable pub limited : ℕ → Bool → Session → Plan → Plan
+limited kept counts s p =
+    pick (ltb mostKept (kept + pick counts (rapduSize (dataCount (p .outcome))) 0)) (failed s 0x6F00) p
+
+-- an expanded script after some commands: the state, the R-APDUs kept so far, and what else stands in the answer should no command
+-- follow: the R-APDU of the last command where it is not kept, or the Bad format TLV
+pub record Progress : Type 0 where
+  pub state : State
+  pub kept : List ℕ
+  pub last : List ℕ
+
+-- a command's R-APDU goes to those kept, or stands last for now
+unfoldable pub answered : Bool → State → List ℕ → List ℕ → Progress
+answered counts st kept r =
+    pick counts
+    (record { state = st; kept = kept ++ r; last = [] })
+    (record { state = st; kept = kept; last = r })
+
+-- the R-APDU of the last command
+unfoldable pub lastRapdu : State → List ℕ
+lastRapdu st =
+    rapdu (dataOf (st .step .outcome) (st .card .files) (st .step .session .waiting)) (wordOf (st .step .outcome))
+
+-- a C-APDU is run
+unfoldable pub stepCapdu : Bool → ℕ → List ℕ → Progress → Progress
+stepCapdu definite domain capdu p =
+    let r : Reading = capduCommand capdu in
+    let counts : Bool = keeps definite (r .command .case) in
+    let session : Session = p .state .step .session in
+    let plan : Plan =
+    planned (situation Expanded domain (r .command) (part capdu (r .from) (r .count)) session (p .state .card))
+    in
+    let st : State =
+    stepped (p .state) (carriedOut (limited (length (p .kept)) counts session plan) (p .state .card))
+    in
+    answered counts st (p .kept) (lastRapdu st)
+
+-- a Bad format TLV: "It counts and stops."
+unfoldable pub stepBad : ℕ → Progress → Progress
+stepBad code p =
+    let step : Step = p .state .step in
+    record {
+      state =
+          record {
+            step = record { session = step .session; outcome = step .outcome; count = step .count + 1 };
+            card = p .state .card;
+          };
+      kept = p .kept;
+      last = badFormat code;
+    }
+
+-- the progress after the items from a place on, n of them at most, in a value that ends at `end`
+unfoldable pub runFrom : ℕ → List ℕ → ℕ → Bool → ℕ → ℕ → Progress → Progress
+runFrom zero script domain definite at end p = p
+runFrom (suc n) script domain definite at end p =
+    elim (itemAt script at end) [
+      | Capdu from size ↦
+          let next : Progress = stepCapdu definite domain (part script from size) p in
+          elim (goesOn (wordOf (next .state .step .outcome))) [
+            | true ↦ runFrom n script domain definite (from + size) end next
+            | false ↦ next
+          ]
+      | Bad code ↦ stepBad code p
+      | End ↦ p
+    ]
+
+-- before the first command
+unfoldable pub begun : ℕ → Card → Progress
+begun application card = record { state = started application card; kept = []; last = [] }
+
+-- a whole script; each item takes a byte or more
+unfoldable pub run : Template → List ℕ → ℕ → ℕ → Card → Progress
+run (Definite at end) script application domain card =
+    runFrom (length script) script domain true at end (begun application card)
+run (Indefinite at end) script application domain card =
+    runFrom (length script) script domain false at end (begun application card)
+run Missing script application domain card = begun application card
+
+-- "AA answers AB, length, 80, length, count .., R-APDUs"
+unfoldable pub definiteBody : Progress → List ℕ
+definiteBody p =
+    let count : List ℕ = countBytes (p .state .step .count) in
+    0x80 ∷ (lengthBytes (length count) ++ (count ++ (p .kept ++ p .last)))
+
+-- "AE answers AF 80, all R-APDUs, 00 00."
+unfoldable pub answer : Template → Progress → List ℕ
+answer (Definite at end) p = 0xAB ∷ (lengthBytes (length (definiteBody p)) ++ definiteBody p)
+answer (Indefinite at end) p = 0xAF ∷ 0x80 ∷ (p .kept ++ (p .last ++ (0 ∷ 0 ∷ [])))
+answer Missing p = []

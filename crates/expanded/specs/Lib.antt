@@ -1,0 +1,4 @@
+pub mod Lengths
+pub mod Templates
+pub mod Capdu
+pub mod Expanded

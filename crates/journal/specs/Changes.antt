@@ -1,0 +1,119 @@
+-- What changes a card: a mark, a list of writes, a take-back, a confirmation.
+use Prim.Native.Nat.{ℕ, _+_, _-_}
+use mathlib.Core.Bool.{Bool, true, false}
+use mathlib.Core.List.{List, [], _∷_, _++_}
+use lib.ListN.{length}
+use lib.Dec.{eqb, leb}
+use Rattle.octets.specs.Choice.{pick}
+use Rattle.octets.specs.Bytes.{part, overwrite, zeros}
+use Rattle.card.specs.Row.{Card}
+use Rattle.journal.specs.Entries.{Entry, headSize, head, usedBytes, scriptsOnTrial, entryBytes, encode, holdsFileBytes, holdsTableByte, isMark, mark, entriesOf}
+
+-- the memories that a command writes
+pub data Memory : Type 0 where
+  fileMemory tableMemory : Memory
+
+-- a write: the memory, the place in it, the new bytes
+pub record Write : Type 0 where
+  pub memory : Memory
+  pub place : ℕ
+  pub new : List ℕ
+
+-- a memory of a card
+unfoldable pub memoryOf : Memory → Card → List ℕ
+memoryOf fileMemory c = c .files
+memoryOf tableMemory c = c .table
+
+-- a card whose journal, or one of the memories, is another
+unfoldable pub withJournal : Card → List ℕ → Card
+withJournal c j = record { table = c .table; files = c .files; journal = j }
+
+unfoldable pub withMemory : Memory → Card → List ℕ → Card
+withMemory fileMemory c m = record { table = c .table; files = m; journal = c .journal }
+withMemory tableMemory c m = record { table = m; files = c .files; journal = c .journal }
+
+-- the journal with one more entry, and so many scripts on trial
+unfoldable pub pushed : List ℕ → ℕ → Entry → List ℕ
+pushed j scripts e =
+    overwrite
+    (overwrite j (headSize + usedBytes j) (encode e))
+    0
+    (head (usedBytes j + length (encode e)) scripts 0)
+
+-- "Each accepted run appends a mark (8 bytes)."
+unfoldable pub marked : List ℕ → List ℕ
+marked j = pushed j (scriptsOnTrial j + 1) mark
+
+-- the kind of entry that holds a memory's old bytes
+unfoldable pub kindFor : Memory → ℕ
+kindFor fileMemory = holdsFileBytes
+kindFor tableMemory = holdsTableByte
+
+-- the entry of a write: the old bytes at its place
+unfoldable pub entryFor : Write → Card → Entry
+entryFor w c =
+    record {
+      kind = kindFor (w .memory);
+      place = w .place;
+      old = part (memoryOf (w .memory) c) (w .place) (length (w .new));
+    }
+
+-- one write: the journal gets the old bytes, the memory the new ones
+unfoldable pub write : Write → Card → Card
+write w c =
+    withMemory (w .memory)
+    (withJournal c (pushed (c .journal) (scriptsOnTrial (c .journal)) (entryFor w c)))
+    (overwrite (memoryOf (w .memory) c) (w .place) (w .new))
+
+-- a list of writes, the first one first
+unfoldable pub perform : List Write → Card → Card
+perform [] c = c
+perform (w ∷ ws) c = perform ws (write w c)
+
+-- the journal bytes that a list of writes takes
+unfoldable pub cost : List Write → ℕ
+cost [] = 0
+cost (w ∷ ws) = entryBytes (length (w .new)) + cost ws
+
+-- the memory that an entry's bytes came from
+unfoldable pub memoryFor : Entry → Memory
+memoryFor e = pick (eqb (e .kind) holdsTableByte) tableMemory fileMemory
+
+-- an entry's old bytes are given back
+unfoldable pub restoreOne : Entry → Card → Card
+restoreOne e c = withMemory (memoryFor e) c (overwrite (memoryOf (memoryFor e) c) (e .place) (e .old))
+
+-- "restores entries newest first"
+unfoldable pub restore : List Entry → Card → Card
+restore [] c = c
+restore (e ∷ es) c = restore es (restoreOne e c)
+
+-- of entries, newest first: those in front of the newest mark
+unfoldable pub sinceMark : List Entry → List Entry
+sinceMark [] = []
+sinceMark (e ∷ es) = pick (isMark e) [] (e ∷ sinceMark es)
+
+-- and those behind it
+unfoldable pub behindMark : List Entry → List Entry
+behindMark [] = []
+behindMark (e ∷ es) = pick (isMark e) es (behindMark es)
+
+-- the bytes that entries take
+unfoldable pub bytesTaken : List Entry → ℕ
+bytesTaken [] = 0
+bytesTaken (e ∷ es) = entryBytes (length (e .old)) + bytesTaken es
+
+-- a journal of which the first u bytes of entries are left, and so many scripts on trial; the rest is zero
+unfoldable pub cutBack : List ℕ → ℕ → ℕ → List ℕ
+cutBack j u scripts = head u scripts 0 ++ (part j headSize u ++ zeros (length j - (headSize + u)))
+
+-- "A take-back restores entries newest first to the newest mark, drops it and zeros the freed bytes."
+unfoldable pub takenBack : Card → Card
+takenBack c =
+    withJournal
+    (restore (sinceMark (entriesOf (c .journal))) c)
+    (cutBack (c .journal) (bytesTaken (behindMark (entriesOf (c .journal)))) (scriptsOnTrial (c .journal) - 1))
+
+-- "A confirmation zeros the journal."
+unfoldable pub confirmed : Card → Card
+confirmed c = withJournal c (zeros (length (c .journal)))

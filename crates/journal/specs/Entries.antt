@@ -1,0 +1,107 @@
+-- "The journal has 2,048 bytes: 0-1 used bytes U (at most 2,044), 2 scripts on trial (0 to 16), 3 zero, then entries".
+use Prim.Native.Nat.{ℕ, zero, suc, _+_, _-_}
+use mathlib.Core.Bool.{Bool, true, false, _&&_}
+use mathlib.Core.List.{List, [], _∷_, _++_}
+use lib.ListN.{length}
+use lib.Dec.{leb, eqb}
+use Rattle.octets.specs.Bytes.{byte, numAt, bytes2, part, same}
+
+-- the head's four bytes
+abbrev pub headSize : ℕ
+headSize = 4
+
+unfoldable pub head : ℕ → ℕ → ℕ → List ℕ
+head used scripts flag = bytes2 used ++ (scripts ∷ flag ∷ [])
+
+-- "used bytes U"
+unfoldable pub usedBytes : List ℕ → ℕ
+usedBytes j = numAt j 0
+
+-- "scripts on trial"
+unfoldable pub scriptsOnTrial : List ℕ → ℕ
+scriptsOnTrial j = byte j 2
+
+-- the most that U can be: what is left of the journal behind its head
+unfoldable pub room : List ℕ → ℕ
+room j = length j - headSize
+
+-- "An entry is n old bytes and an 8-byte tail"
+pub record Entry : Type 0 where
+  pub kind : ℕ
+  pub place : ℕ
+  pub old : List ℕ
+
+abbrev pub tailSize : ℕ
+tailSize = 8
+
+-- "8-byte tail: kind, 0, place (2), n (2), 0, 0"
+unfoldable pub tail : ℕ → ℕ → ℕ → List ℕ
+tail kind place n = kind ∷ 0 ∷ (bytes2 place ++ (bytes2 n ++ (0 ∷ 0 ∷ [])))
+
+-- an entry's bytes
+unfoldable pub encode : Entry → List ℕ
+encode e = e .old ++ tail (e .kind) (e .place) (length (e .old))
+
+-- how many bytes an entry takes that has n old bytes
+abbrev pub entryBytes : ℕ → ℕ
+entryBytes n = tailSize + n
+
+-- "Kind 1 marks a script's start (n and place 0); kind 2 holds file memory bytes ..; kind 3 one table byte"
+abbrev pub marksStart : ℕ
+marksStart = 1
+
+abbrev pub holdsFileBytes : ℕ
+holdsFileBytes = 2
+
+abbrev pub holdsTableByte : ℕ
+holdsTableByte = 3
+
+abbrev pub isMark : Entry → Bool
+isMark e = eqb (e .kind) marksStart
+
+-- a script's mark
+unfoldable pub mark : Entry
+mark = record { kind = marksStart; place = 0; old = [] }
+
+-- the tail that ends where the first u bytes of entries end
+unfoldable pub tailAt : List ℕ → ℕ → List ℕ
+tailAt j u = part j (headSize + u - tailSize) tailSize
+
+-- what that tail says of the number of old bytes
+unfoldable pub oldCount : List ℕ → ℕ → ℕ
+oldCount j u = numAt (tailAt j u) 4
+
+-- the entry that ends where the first u bytes of entries end
+unfoldable pub entryAt : List ℕ → ℕ → Entry
+entryAt j u =
+    record {
+      kind = byte (tailAt j u) 0;
+      place = numAt (tailAt j u) 2;
+      old = part j (headSize + u - entryBytes (oldCount j u)) (oldCount j u);
+    }
+
+-- whether a whole entry ends there: its tail is in the form of a tail, and its bytes are there
+unfoldable pub readable : List ℕ → ℕ → Bool
+readable j u =
+    leb (entryBytes (oldCount j u)) u
+    && same (tailAt j u) (tail (byte (tailAt j u) 0) (numAt (tailAt j u) 2) (oldCount j u))
+
+-- what stands for bytes that are no entry; its kind is none
+unfoldable pub noEntry : Entry
+noEntry = record { kind = 0; place = 0; old = [] }
+
+-- at most n entries, "read back from the end" of the first u bytes: newest first; the last is `noEntry` where they do not fill u exactly
+unfoldable pub entriesBack : ℕ → List ℕ → ℕ → List Entry
+entriesBack zero j u = []
+entriesBack (suc n) j u =
+    elim (eqb u 0) [
+      | true ↦ []
+      | false ↦ elim (readable j u) [
+        | true ↦ entryAt j u ∷ entriesBack n j (u - entryBytes (oldCount j u))
+        | false ↦ noEntry ∷ []
+      ]
+    ]
+
+-- a journal's entries, newest first; each takes some of its used bytes, so there are no more of them than used bytes
+unfoldable pub entriesOf : List ℕ → List Entry
+entriesOf j = entriesBack (usedBytes j) j (usedBytes j)

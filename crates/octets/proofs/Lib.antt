@@ -1,0 +1,4 @@
+pub mod Picks
+pub mod Writes
+pub mod Numbers
+pub mod Same

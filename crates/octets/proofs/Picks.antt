@@ -1,0 +1,86 @@
+-- Choices by a test that is known, tests joined by and, and a test of every number below a bound. Assumes nothing.
+use mathlib.Core.Path.{_≡_, refl, sym, ap, _∙_}
+use mathlib.Core.Bool.{Bool, true, false, _&&_, false≢true}
+use mathlib.Core.Logic.{⊎-elim}
+use Prim.Native.Nat.{ℕ, zero, suc, _+_, _≤_, _<_}
+use native.Mathlib.Nat.{eq-or-lt-of-le, le-of-suc-le-suc, not-suc-le-zero}
+use native.Mathlib.Numerals.{add-one}
+use native.Mathlib.Omega.{arith}
+use lib.Dec.{ltb, leb, eqb}
+use borrow.Author.Tests.{lt-ltb, le-ltb, le-leb, lt-leb, eq-eqb, ne-eqb}
+use Rattle.octets.specs.Choice.{pick, allBelow}
+
+module _ {A : Type 0} where
+  pub pick-true : (b : Bool) (x y : A) → b ≡ true → pick b x y ≡ x
+  unfolding pick
+  pick-true b x y e = rw e
+
+  pub pick-false : (b : Bool) (x y : A) → b ≡ false → pick b x y ≡ y
+  unfolding pick
+  pick-false b x y e = rw e
+
+  pub lt-yes : (a b : ℕ) {r x : A} (y : A) → a < b → r ≡ x → r ≡ pick (ltb a b) x y
+  lt-yes a b {x = x} y h e = e ∙ sym (pick-true (ltb a b) x y (lt-ltb a b h))
+
+  pub lt-no : (a b : ℕ) {r : A} (x : A) {y : A} → b ≤ a → r ≡ y → r ≡ pick (ltb a b) x y
+  lt-no a b x {y} h e = e ∙ sym (pick-false (ltb a b) x y (le-ltb a b h))
+
+  pub le-yes : (a b : ℕ) {r x : A} (y : A) → a ≤ b → r ≡ x → r ≡ pick (leb a b) x y
+  le-yes a b {x = x} y h e = e ∙ sym (pick-true (leb a b) x y (le-leb a b h))
+
+  pub le-no : (a b : ℕ) {r : A} (x : A) {y : A} → b < a → r ≡ y → r ≡ pick (leb a b) x y
+  le-no a b x {y} h e = e ∙ sym (pick-false (leb a b) x y (lt-leb a b h))
+
+  pub eq-yes : (a b : ℕ) {r x : A} (y : A) → a ≡ b → r ≡ x → r ≡ pick (eqb a b) x y
+  eq-yes a b {x = x} y h e = e ∙ sym (pick-true (eqb a b) x y (eq-eqb a b h))
+
+  pub eq-no : (a b : ℕ) {r : A} (x : A) {y : A} → (a ≡ b → ⊥) → r ≡ y → r ≡ pick (eqb a b) x y
+  eq-no a b x {y} h e = e ∙ sym (pick-false (eqb a b) x y (ne-eqb a b h))
+
+  pub eq-other : (a b k : ℕ) {r : A} (x : A) {y : A} → a ≡ k → eqb k b ≡ false → r ≡ y → r ≡ pick (eqb a b) x y
+  eq-other a b k x {y} h f e = e ∙ sym (pick-false (eqb a b) x y (rw h f))
+
+pub ruleset picks = (lt-yes, lt-no, le-yes, le-no, eq-yes, eq-no, eq-other)
+
+pub and-left : (a b : Bool) → (a && b) ≡ true → a ≡ true
+and-left true b e = refl
+and-left false b e = e
+
+pub and-right : (a b : Bool) → (a && b) ≡ true → b ≡ true
+and-right true b e = e
+and-right false b e = absurd (false≢true e)
+
+pub and-both : (a b : Bool) → a ≡ true → b ≡ true → (a && b) ≡ true
+and-both a b e f = rw e f
+
+pub refuted : (b : Bool) → (b ≡ true → ⊥) → b ≡ false
+refuted true h = absurd (h refl)
+refuted false h = refl
+
+pub all-none : (t : ℕ → Bool) → allBelow 0 t ≡ true
+unfolding allBelow
+all-none t = refl
+
+pub all-next : (n : ℕ) (t : ℕ → Bool) → allBelow (n + 1) t ≡ (allBelow n t && t n)
+unfolding allBelow
+all-next n t = rw add-one
+
+pub all-more : (n : ℕ) (t : ℕ → Bool) → allBelow n t ≡ true → t n ≡ true → allBelow (n + 1) t ≡ true
+all-more n t h e = all-next n t ∙ and-both (allBelow n t) (t n) h e
+
+pub all-at : (n k : ℕ) (t : ℕ → Bool) → allBelow n t ≡ true → k < n → t k ≡ true
+unfolding allBelow
+all-at zero k t h l = absurd (not-suc-le-zero l)
+all-at (suc n) k t h l =
+    ⊎-elim
+    (λ e. ap t e ∙ and-right (allBelow n t) (t n) h)
+    (λ b. all-at n k t (and-left (allBelow n t) (t n) h) b)
+    (eq-or-lt-of-le (le-of-suc-le-suc l))
+
+pub all-fails : (n k : ℕ) (t : ℕ → Bool) → k < n → t k ≡ false → allBelow n t ≡ false
+all-fails n k t l f = refuted (allBelow n t) (λ e. false≢true (sym f ∙ all-at n k t e l))
+
+pub all-intro : (n : ℕ) (t : ℕ → Bool) → ((k : ℕ) → k < n → t k ≡ true) → allBelow n t ≡ true
+unfolding allBelow
+all-intro zero t h = refl
+all-intro (suc n) t h = and-both (allBelow n t) (t n) (all-intro n t (λ k l. h k (omega arith))) (h n (omega arith))

@@ -1,0 +1,116 @@
+-- What the comparisons of runs of bytes tell, and how each goes on by one byte. Assumes nothing.
+use mathlib.Core.Path.{_≡_, refl, sym, ap, _∙_}
+use mathlib.Core.Bool.{Bool, true, false, _&&_, and-false, false≢true}
+use mathlib.Core.List.{List, [], _∷_, _++_}
+use Prim.Native.Nat.{ℕ, zero, suc, _+_, _≤_, _<_}
+use native.Mathlib.Nat.{le-of-suc-le-suc, not-suc-le-zero}
+use native.Mathlib.Numerals.{add-one}
+use native.Mathlib.Omega.{arith}
+use lib.Dec.{eqb}
+use lib.ListN.{length, take, drop, drop-of-length-le}
+use lib.Seq.{drop-cons, drop-drop}
+use borrow.Author.Tests.{eqb-true, eq-eqb, ne-eqb}
+use Rattle.octets.specs.Bytes.{byte, zeros, allZero, same, startsWith, contains}
+use Rattle.octets.proofs.Picks.{and-left, and-right, and-both}
+
+pub same-true : (a b : List ℕ) → same a b ≡ true → a ≡ b
+unfolding same
+same-true [] [] h = refl
+same-true [] (y ∷ b) h = absurd (false≢true h)
+same-true (x ∷ a) [] h = absurd (false≢true h)
+same-true (x ∷ a) (y ∷ b) h = λ i. eqb-true x y (and-left (eqb x y) (same a b) h) i ∷ same-true a b (and-right (eqb x y) (same a b) h) i
+
+pub same-refl : (a : List ℕ) → same a a ≡ true
+unfolding same
+same-refl [] = refl
+same-refl (x ∷ a) = and-both (eqb x x) (same a a) (eq-eqb x x refl) (same-refl a)
+
+pub zero-true : (m : List ℕ) → allZero m ≡ true → m ≡ zeros (length m)
+unfolding allZero
+zero-true [] h = refl
+zero-true (x ∷ m) h = λ i. eqb-true x 0 (and-left (eqb x 0) (allZero m) h) i ∷ zero-true m (and-right (eqb x 0) (allZero m) h) i
+
+pub zero-zeros : (n : ℕ) → allZero (zeros n) ≡ true
+unfolding allZero
+zero-zeros zero = refl
+zero-zeros (suc n) = zero-zeros n
+
+-- a comparison byte by byte: what is left from place i on tells what the whole does
+module _ {t : Bool} (m : List ℕ) (i : ℕ) (left : t ≡ allZero (drop i m)) where
+  zero-next : i < length m → t ≡ (eqb (byte m i) 0 && allZero (drop (i + 1) m))
+  unfolding allZero
+  zero-next h = left ∙ rw (add-one, drop-cons m i 0)
+
+  pub zero-goes-on : i < length m → byte m i ≡ 0 → t ≡ allZero (drop (i + 1) m)
+  zero-goes-on h e = rw (eq-eqb (byte m i) 0 e) at (zero-next h)
+
+  pub zero-fails : i < length m → (byte m i ≡ 0 → ⊥) → false ≡ t
+  zero-fails h e = sym (rw (ne-eqb (byte m i) 0 e) at (zero-next h))
+
+  pub zero-ends : length m ≤ i → true ≡ t
+  unfolding allZero
+  zero-ends h = sym (rw (drop-of-length-le m h) at left)
+
+module _ {t : Bool} (m d : List ℕ) (j i : ℕ) (left : t ≡ startsWith (drop j m) (drop i d)) where
+  starts-next : j < length m → i < length d → t ≡ (eqb (byte m j) (byte d i) && startsWith (drop (j + 1) m) (drop (i + 1) d))
+  unfolding startsWith
+  starts-next h g = left ∙ rw (add-one j, add-one i, drop-cons m j 0 h, drop-cons d i 0 g)
+
+  pub starts-goes-on : j < length m → i < length d → byte m j ≡ byte d i → t ≡ startsWith (drop (j + 1) m) (drop (i + 1) d)
+  starts-goes-on h g e = rw (eq-eqb (byte m j) (byte d i) e) at (starts-next h g)
+
+  pub starts-fails : j < length m → i < length d → (byte m j ≡ byte d i → ⊥) → false ≡ t
+  starts-fails h g e = sym (rw (ne-eqb (byte m j) (byte d i) e) at (starts-next h g))
+
+  pub starts-ends : length d ≤ i → true ≡ t
+  unfolding startsWith
+  starts-ends h = sym (rw (drop-of-length-le d h) at left)
+
+-- a run that begins with another has its bytes first, and every run begins with a front of it
+pub starts-true : (m d : List ℕ) → startsWith m d ≡ true → take (length d) m ≡ d
+unfolding startsWith
+starts-true m [] h = refl
+starts-true [] (y ∷ d) h = absurd (false≢true h)
+starts-true (x ∷ m) (y ∷ d) h = λ i. eqb-true x y (and-left (eqb x y) (startsWith m d) h) i ∷ starts-true m d (and-right (eqb x y) (startsWith m d) h) i
+
+pub starts-front : (d r : List ℕ) → startsWith (d ++ r) d ≡ true
+unfolding startsWith
+starts-front [] r = refl
+starts-front (x ∷ d) r = and-both (eqb x x) (startsWith (d ++ r) d) (eq-eqb x x refl) (starts-front d r)
+
+pub starts-not : (m d : List ℕ) → startsWith m d ≡ false → 0 < length d
+unfolding startsWith
+starts-not m [] h = absurd (false≢true (sym h))
+starts-not m (y ∷ d) h = omega arith
+
+starts-short : (m d : List ℕ) → length m < length d → startsWith m d ≡ false
+unfolding startsWith
+starts-short m [] h = absurd (not-suc-le-zero h)
+starts-short [] (y ∷ d) h = refl
+starts-short (x ∷ m) (y ∷ d) h = ap (λ (b : Bool). eqb x y && b) (starts-short m d (le-of-suc-le-suc h)) ∙ and-false (eqb x y)
+
+pub contains-short : (m d : List ℕ) → length m < length d → contains m d ≡ false
+unfolding contains
+contains-short [] d h = starts-short [] d h
+contains-short (x ∷ m) d h = rw (starts-short (x ∷ m) d h) (contains-short m d (omega arith))
+
+contains-here : (m d : List ℕ) → startsWith m d ≡ true → contains m d ≡ true
+unfolding contains
+contains-here [] d h = h
+contains-here (x ∷ m) d h = rw h
+
+contains-tail : (m d : List ℕ) → startsWith m d ≡ false → contains m d ≡ contains (drop 1 m) d
+unfolding contains
+contains-tail [] d h = refl
+contains-tail (x ∷ m) d h = rw h
+
+-- a search place by place
+module _ {t : Bool} (m d : List ℕ) (i : ℕ) (left : t ≡ contains (drop i m) d) where
+  pub contains-found : startsWith (drop i m) d ≡ true → true ≡ t
+  contains-found h = sym (left ∙ contains-here (drop i m) d h)
+
+  pub contains-goes-on : startsWith (drop i m) d ≡ false → t ≡ contains (drop (i + 1) m) d
+  contains-goes-on h = left ∙ rw (← (drop-drop 1 i m)) (contains-tail (drop i m) d h)
+
+  pub contains-ends : length (drop i m) < length d → false ≡ t
+  contains-ends h = sym (left ∙ contains-short (drop i m) d h)

@@ -1,0 +1,114 @@
+// Bytes: big-endian numbers, writes into lent memory, and comparisons in place.
+ghost use mathlib.Core.Path.{_≡_};
+ghost use mathlib.Core.List.{[], _∷_, _++_};
+ghost use Prim.Native.Nat.{_+_, _≤_, _<_};
+ghost use lib.ListN.{length, drop, replicate};
+ghost use Rattle.octets.specs.Bytes.{numAt, bytes2, overwrite, allZero, startsWith, contains};
+
+// A byte as a number.
+pub fn wide(b: u8) -> usize
+    ensures { λ r. ⌜ (r ≡ b) × (r < 256) ⌝ }
+{
+    b as usize
+}
+
+// The 16-bit number at a place.
+pub fn num_at(m: &[u8], at: usize) -> usize
+    requires { ⌜ at + 2 ≤ length (now m) ⌝ }
+    ensures { λ r. ⌜ (r ≡ numAt (now (m .entry)) at) × (r < 65536) ⌝ }
+{
+    let high = wide(m[at]);
+    let low = wide(m[at + 1]);
+    high * 256 + low
+}
+
+// A 16-bit number is written at a place.
+pub fn put_num(m: &mut [u8], at: usize, n: usize)
+    requires { ⌜ at + 2 ≤ length (now m) ⌝ }
+    ensures { λ _. ⌜ now (m .exit) ≡ overwrite (now (m .entry)) at (bytes2 n) ⌝ }
+{
+    m[at] = (n / 256 % 256) as u8;
+    m[at + 1] = (n % 256) as u8;
+}
+
+// A run of bytes is copied to a place.
+pub fn copy(m: &mut [u8], at: usize, d: &[u8])
+    requires { ⌜ at + length (now d) ≤ length (now m) ⌝ }
+    ensures { λ _. ⌜ now (m .exit) ≡ overwrite (now (m .entry)) at (now (d .entry)) ⌝ }
+{
+    let mut i: usize = 0;
+    while i < d.len() {
+        m[at + i] = d[i];
+        i += 1;
+    }
+}
+
+// A run of n bytes from a place on is filled with one byte.
+pub fn fill(m: &mut [u8], at: usize, n: usize, b: u8)
+    requires { ⌜ at + n ≤ length (now m) ⌝ }
+    ensures { λ _. ⌜ now (m .exit) ≡ overwrite (now (m .entry)) at (replicate n b) ⌝ }
+{
+    let mut i: usize = 0;
+    while i < n {
+        m[at + i] = b;
+        i += 1;
+    }
+}
+
+// The four bytes of a journal's head are written: used bytes, scripts on trial, flag.
+pub fn put_head(m: &mut [u8], used: usize, scripts: u8, flag: u8)
+    requires { ⌜ 4 ≤ length (now m) ⌝ }
+    ensures { λ _. ⌜ now (m .exit) ≡ overwrite (now (m .entry)) 0 (bytes2 used ++ (scripts ∷ flag ∷ [])) ⌝ }
+{
+    m[0] = (used / 256 % 256) as u8;
+    m[1] = (used % 256) as u8;
+    m[2] = scripts;
+    m[3] = flag;
+}
+
+// Whether every byte is zero.
+pub fn all_zero(m: &[u8]) -> bool
+    ensures { λ r. ⌜ r ≡ allZero (now (m .entry)) ⌝ }
+{
+    let mut i: usize = 0;
+    while i < m.len() {
+        if m[i] != 0 {
+            return false;
+        }
+        i += 1;
+    }
+    true
+}
+
+// Whether the bytes from a place on begin with a run of bytes.
+pub fn starts_at(m: &[u8], at: usize, d: &[u8]) -> bool
+    requires { ⌜ at + length (now d) ≤ length (now m) ⌝ }
+    ensures { λ r. ⌜ r ≡ startsWith (drop at (now (m .entry))) (now (d .entry)) ⌝ }
+{
+    let mut i: usize = 0;
+    while i < d.len() {
+        if m[at + i] != d[i] {
+            return false;
+        }
+        i += 1;
+    }
+    true
+}
+
+// Whether a run of bytes stands somewhere in the memory, in one piece; it is compared where it lies.
+pub fn within(m: &[u8], d: &[u8]) -> bool
+    ensures { λ r. ⌜ r ≡ contains (now (m .entry)) (now (d .entry)) ⌝ }
+{
+    if m.len() < d.len() {
+        return false;
+    }
+    let last = m.len() - d.len();
+    let mut i: usize = 0;
+    while i <= last {
+        if starts_at(m, i, d) {
+            return true;
+        }
+        i += 1;
+    }
+    false
+}

@@ -1,0 +1,117 @@
+/* What the tests share: cards, calls on exactly lent memory, and the checks that hold for
+ * every call. Scripts and answers are written in hexadecimal; blanks between digits are free. */
+#ifndef TEST_KIT_H
+#define TEST_KIT_H
+
+#include <stdbool.h>
+#include <stddef.h>
+#include <stdint.h>
+
+#include "second.h"
+
+enum { COMPACT = 0, EXPANDED = 1 };
+enum { SHARED = 0, OPEN = 0x00, CLOSED = 0xFF };
+enum { FULL_RESPONSE = 1024 };
+
+/* Bytes that a test puts together. */
+struct bytes {
+    size_t length;
+    uint8_t at[34000];
+};
+
+/* A card as it lies on the test's own side; each call gets copies of exactly these lengths. */
+struct card_bytes {
+    struct bytes table, files, journal;
+};
+
+struct reply {
+    unsigned number;
+    uint32_t count;
+    size_t length;
+    uint8_t response[2048];
+};
+
+/* ---- Bytes ---- */
+void add_hex(struct bytes *to, const char *hex);
+void add_byte(struct bytes *to, unsigned byte);
+void add_bytes(struct bytes *to, const uint8_t *from, size_t length);
+void set_hex(struct bytes *to, const char *hex);
+bool same_bytes(const struct bytes *a, const struct bytes *b);
+
+/* ---- Cards ---- */
+
+/* The worked card; `c` is overwritten. */
+void worked_card(struct card_bytes *c);
+/* A card with this table, file memory of this length filled with (index & 0xFF), journal zero. */
+void made_card(struct card_bytes *c, const char *table, size_t files_length);
+bool same_card(const struct card_bytes *a, const struct card_bytes *b);
+/* A sound journal with so many marks and exactly `used` bytes; a take-back of it changes no
+ * file byte. used - 8 * marks is 0 or at least 9. */
+void fill_journal(struct card_bytes *c, unsigned marks, size_t used);
+
+/* ---- Cases ---- */
+
+/* Starts a case; what fails after it is printed under this name, at most one line for each. */
+void start_case(const char *name);
+void check(bool holds, const char *what);
+void check_number(const char *what, unsigned long expected, unsigned long got);
+void check_part(const char *what, const uint8_t *got, const char *expected_hex);
+void check_card(const char *what, const struct card_bytes *expected, const struct card_bytes *got);
+/* Prints 'second: N cases, M failed' and answers whether M is 0. */
+bool report(void);
+
+/* ---- The three calls, on memory of exactly the given lengths ----
+ * Each checks what holds always: a refusal has length and count 0 and changes nothing, the
+ * response memory behind the answer keeps its content, an accepted run can be taken back to
+ * all as before, and the card is sound after it. */
+struct reply run(struct card_bytes *c, size_t application, uint8_t domain, uint8_t format,
+                 const struct bytes *script, size_t response_length);
+unsigned take_back(struct card_bytes *c);
+unsigned confirm(struct card_bytes *c);
+
+/* ---- One whole case each; the card is moved on ---- */
+
+/* Compact on shared files, domain 00: the answer; the count is its first byte. */
+void compact_on(struct card_bytes *c, const char *name, const char *script, const char *answer);
+void expanded_on(struct card_bytes *c, const char *name, const char *script, uint32_t count,
+                 const char *answer);
+/* As above on a fresh worked card. */
+void compact(const char *name, const char *script, const char *answer);
+void expanded(const char *name, const char *script, uint32_t count, const char *answer);
+/* Any format, application and domain, with the answer as bytes. */
+void whole_case(struct card_bytes *c, const char *name, size_t application, uint8_t domain,
+                uint8_t format, const struct bytes *script, uint32_t count,
+                const struct bytes *answer);
+void compact_in(struct card_bytes *c, const char *name, size_t application, uint8_t domain,
+                const char *script, const char *answer);
+void expanded_in(struct card_bytes *c, const char *name, size_t application, uint8_t domain,
+                 const char *script, uint32_t count, const char *answer);
+void refused(struct card_bytes *c, const char *name, size_t application, uint8_t domain,
+             uint8_t format, const char *script, unsigned number);
+/* The same number for a run, a take-back and a confirmation. */
+void unsound(struct card_bytes *c, const char *name);
+void sound(struct card_bytes *c, const char *name);
+
+/* U and the scripts on trial. */
+unsigned used_of(const struct card_bytes *c);
+unsigned scripts_of(const struct card_bytes *c);
+
+/* Adds tag 22, the length in shortest form and the C-APDU. */
+void add_apdu(struct bytes *to, const char *apdu);
+/* Puts AA and the length in front, or AE 80 in front and 00 00 behind. */
+void wrap_aa(struct bytes *value);
+void wrap_ae(struct bytes *value);
+
+/* ---- The parts ---- */
+void test_worked_card(void);
+void test_soundness(void);
+void test_calls(void);
+void test_compact_points(void);
+void test_file_points(void);
+void test_expanded_points(void);
+void test_histories(void);
+void test_random(void);
+
+#define S "00A4000C027F10 00A4000C026F46 "
+
+#endif
