@@ -13,12 +13,16 @@ pub record Card : Type 0 where
   pub files : List ℕ
   pub journal : List ℕ
 
+-- the card of three memories
+abbrev pub lent : List ℕ → List ℕ → List ℕ → Card
+lent t files j = record { table = t; files = files; journal = j }
+
 -- "The table has .. entries of 16 bytes"
 abbrev pub entrySize : ℕ
 entrySize = 16
 
 -- how many entries a table has
-unfoldable pub entries : List ℕ → ℕ
+abbrev pub entries : List ℕ → ℕ
 entries t = length t / entrySize
 
 -- the 16 bytes of an entry

@@ -6,7 +6,7 @@ use lib.ListN.{length}
 use lib.Dec.{leb, ltb, eqb}
 use Rattle.octets.specs.Choice.{pick, allBelow}
 use Rattle.card.specs.declared.Row.{Row}
-use Rattle.card.specs.Row.{entrySize, entries, rowOf, isADF, isTransparent, isCyclic, isDirectory, isFile, canBeChild, activated, deactivated}
+use Rattle.card.specs.Row.{entrySize, entries, rowOf, isADF, isTransparent, isCyclic, isDirectory, canBeChild, activated, deactivated}
 
 -- "The table has 1 to 64 entries"
 abbrev pub mostEntries : ℕ

@@ -1,5 +1,34 @@
 // The lent card: table and file memory.
+pub mod records;
+pub mod rules;
+pub mod sound;
 pub mod tree;
+
+ghost use mathlib.Core.Path.{_≡_};
+ghost use Prim.Native.Nat.{_+_, _*_, _≤_};
+ghost use lib.ListN.{length};
+ghost use Rattle.card.specs.Row.{entrySize, entries, row, rowOf, Narrow};
+
+// The bytes of an entry.
+pub const ENTRY_SIZE: usize = 16;
+
+// "kind: 1 MF, 2 DF, 3 ADF, 4 transparent, 5 linear fixed, 6 cyclic"
+pub const MF: usize = 1;
+
+pub const DF: usize = 2;
+
+pub const ADF: usize = 3;
+
+pub const TRANSPARENT: usize = 4;
+
+pub const LINEAR: usize = 5;
+
+pub const CYCLIC: usize = 6;
+
+// "05 activated, 04 deactivated"
+pub const ACTIVATED: usize = 5;
+
+pub const DEACTIVATED: usize = 4;
 
 // An entry of the table, read from its 16 bytes.
 pub struct Row {
@@ -15,4 +44,41 @@ pub struct Row {
     pub never: usize,
     pub thirteen: usize,
     pub fifteen: usize,
+}
+
+// How many entries a table has.
+pub fn count(table: &[u8]) -> usize
+    ensures { λ r. ⌜ r ≡ entries (now (table .entry)) ⌝ }
+{
+    table.len() / ENTRY_SIZE
+}
+
+// What the 16 bytes of an entry hold.
+fn row_of(bytes: &[u8]) -> Row
+    requires { ⌜ length (now bytes) ≡ 16 ⌝ }
+    ensures { λ r. ⌜ (r ≡ row (now (bytes .entry))) × Narrow r ⌝ }
+{
+    Row {
+        identifier: octets::num_at(bytes, 0),
+        parent: octets::wide(bytes[2]),
+        kind: octets::wide(bytes[3]),
+        start: octets::num_at(bytes, 4),
+        size: octets::num_at(bytes, 6),
+        record: octets::wide(bytes[8]),
+        newest: octets::wide(bytes[9]),
+        state: octets::wide(bytes[10]),
+        eleven: octets::wide(bytes[11]),
+        never: octets::wide(bytes[12]),
+        thirteen: octets::num_at(bytes, 13),
+        fifteen: octets::wide(bytes[15]),
+    }
+}
+
+// The entry of a number.
+pub fn row_at(table: &[u8], e: usize) -> Row
+    requires { ⌜ entrySize * e + entrySize ≤ length (now table) ⌝ }
+    ensures { λ r. ⌜ (r ≡ rowOf (now (table .entry)) e) × Narrow r ⌝ }
+{
+    let at = ENTRY_SIZE * e;
+    row_of(&table[at..at + ENTRY_SIZE])
 }

@@ -1,7 +1,50 @@
 // Children, and the way up to the root.
+use crate::ADF;
+use crate::DF;
+use crate::MF;
+use crate::count;
+use crate::row_at;
+use crate::rules::can_be_child;
+ghost use mathlib.Core.Path.{_≡_};
+ghost use mathlib.Core.Bool.{not, _&&_, _||_};
+ghost use Prim.Native.Nat.{ℕ, _≤_, _<_};
+ghost use lib.Dec.{eqb};
+ghost use Rattle.card.specs.Row.{entries, isDF};
+ghost use Rattle.card.specs.Tree.{childWith, ParentsSmaller, rootIn};
 
 // The entry that a search finds.
 pub enum Found {
     At(usize),
     Nothing,
+}
+
+// The first child of a directory that has an identifier; a DF, if only those are wanted.
+pub fn child(table: &[u8], directory: usize, only_df: bool, identifier: usize) -> Found
+    ensures { λ f. ⌜ f ≡ childWith (now (table .entry)) directory (λ r. (not «only_df» || isDF r) && eqb (r .identifier) identifier) ⌝ }
+{
+    let n = count(table);
+    let mut e: usize = 0;
+    while e < n {
+        let r = row_at(table, e);
+        if (can_be_child(r) & (r.parent == directory))
+            & ((!only_df | (r.kind == DF)) & (r.identifier == identifier))
+        {
+            return Found::At(e);
+        }
+        e += 1;
+    }
+    Found::Nothing
+}
+
+// The MF or the ADF that an entry belongs to.
+pub fn root_of(table: &[u8], e: usize) -> usize
+    requires { ⌜ (e < entries (now table)) × ParentsSmaller (now table) ⌝ }
+    ensures { λ r. ⌜ (r ≤ e) × ((n : ℕ) → e ≤ n → r ≡ rootIn n (now (table .entry)) e) ⌝ }
+{
+    let r = row_at(table, e);
+    if (r.kind == MF) | (r.kind == ADF) {
+        return e;
+    }
+    let parent = r.parent;
+    root_of(table, parent)
 }

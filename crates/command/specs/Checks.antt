@@ -11,13 +11,11 @@ use Rattle.card.specs.declared.tree.Found.{Found}
 use Rattle.card.specs.declared.tree.Found.the-variants.{At, Nothing}
 use Rattle.card.specs.Row.{isTransparent, isCyclic, hasRecords, isDeactivated}
 use Rattle.journal.specs.Changes.{cost}
-use Rattle.session.specs.declared.Session.{Session}
-use Rattle.command.specs.declared.Instruction.{Instruction}
-use Rattle.command.specs.declared.Instruction.the-variants.{Select, ReadBinary, UpdateBinary, ReadRecord, UpdateRecord, Search, Increase, GetResponse, Unknown}
 use Rattle.command.specs.declared.Command.{Command}
-use Rattle.command.specs.Instructions.{among, carriesData, isOutgoing, isSwitch, classOf, caseOf, noData, withFcp, neverBit}
-use Rattle.command.specs.Files.{File, modeNext, modePrevious, modeAbsolute, searchForward, searchBackward, absoluteRecord, hasRecord, sum}
-use Rattle.command.specs.Plans.{Situation, offsetOf, recordNamed, doneBy}
+use Rattle.command.specs.Instructions as ins
+use Rattle.command.specs.Instructions.{carriesData, isOutgoing, isSwitch, isKnown, isBinary, isRecord, classOf, caseOf, noData, withFcp, neverBit}
+use Rattle.command.specs.Files.{File, modeNext, modePrevious, modeAbsolute, searchForward, searchBackward, hasRecord, sum}
+use Rattle.command.specs.Plans.{Situation, offsetOf, namedBy, doneBy}
 
 pub data Check : Type 0 where
   brokenForm unknownInstruction wrongClass bytesAfter wrongCase wrongParameters wrongDomain : Check
@@ -47,9 +45,9 @@ unfoldable pub responseChecks : List Check
 responseChecks = nothingWaits ∷ moreThanWaits ∷ []
 
 -- "no file 6986; kind .. 6981; DC on cyclic outside mode 03 6A86; deactivated 6984 ..; NEVER bit 6982; offset not below length
--- 6B00, record 6A83; lengths against file or record 6700 ..; sum too long 9850; journal 6581."
-unfoldable pub fileChecks : List Check
-fileChecks =
+-- 6B00, record 6A83; lengths against file or record 6700 ..;"
+unfoldable pub boundChecks : List Check
+boundChecks =
     noFile
     ∷ wrongKind
     ∷ wrongMode
@@ -58,16 +56,18 @@ fileChecks =
     ∷ offsetOutside
     ∷ noRecord
     ∷ wrongLength
-    ∷ sumTooLong
-    ∷ journalFull
     ∷ []
 
+-- "sum too long 9850; journal 6581."
+unfoldable pub fileChecks : List Check
+fileChecks = boundChecks ++ (sumTooLong ∷ journalFull ∷ [])
+
 -- the checks behind the formal ones
-unfoldable pub laterChecks : Instruction → List Check
-laterChecks i = pick (among i (Select ∷ [])) selectChecks (pick (among i (GetResponse ∷ [])) responseChecks fileChecks)
+unfoldable pub laterChecks : ℕ → List Check
+laterChecks i = pick (eqb i ins.select) selectChecks (pick (eqb i ins.getResponse) responseChecks fileChecks)
 
 -- the whole order for an instruction
-unfoldable pub order : Instruction → List Check
+unfoldable pub order : ℕ → List Check
 order i = formalChecks ++ laterChecks i
 
 -- the word of each check
@@ -94,93 +94,91 @@ checkWord wrongLength = 0x6700
 checkWord sumTooLong = 0x9850
 checkWord journalFull = 0x6581
 
-unfoldable pub isUnknown : Instruction → Bool
-isUnknown i = among i (Unknown ∷ [])
-
 -- "wrong case, Lc 0"
-unfoldable pub caseFits : Command → List ℕ → Bool
-caseFits c «data» =
+unfoldable pub caseFits : Command → ℕ → Bool
+caseFits c lc =
     eqb (c .case) (caseOf (c .instruction) (c .p2))
-    && not (carriesData (c .instruction) && eqb (length «data») 0)
+    && not (carriesData (c .instruction) && eqb lc 0)
 
 -- "P1P2"
-unfoldable pub parametersFit : Instruction → ℕ → ℕ → Bool
+unfoldable pub parametersFit : ℕ → ℕ → ℕ → Bool
 parametersFit i p1 p2 =
-    pick (among i (Select ∷ []))
+    pick (eqb i ins.select)
     ((eqb p1 0x00 || (eqb p1 0x08 || eqb p1 0x09)) && (eqb p2 noData || eqb p2 withFcp))
-    (pick (among i (ReadBinary ∷ UpdateBinary ∷ []))
+    (pick (isBinary i)
     (leb p1 0x7F)
-    (pick (among i (ReadRecord ∷ UpdateRecord ∷ []))
-    (eqb p2 modeAbsolute || ((eqb p2 modeNext || eqb p2 modePrevious) && eqb p1 0x00))
-    (pick (among i (Search ∷ []))
+    (pick (eqb i ins.search)
     (eqb p2 searchForward || eqb p2 searchBackward)
+    (pick (isRecord i)
+    (eqb p2 modeAbsolute || ((eqb p2 modeNext || eqb p2 modePrevious) && eqb p1 0x00))
     (eqb p1 0x00 && eqb p2 0x00))))
 
 -- "domain FF 6982 (C0 exempt)"
-unfoldable pub domainFits : Instruction → ℕ → Bool
-domainFits i domain = among i (GetResponse ∷ []) || not (eqb domain 0xFF)
+abbrev pub domainFits : ℕ → ℕ → Bool
+domainFits i domain = eqb i ins.getResponse || not (eqb domain 0xFF)
 
 -- "P1 00: two bytes", else "1 to 8 identifiers"
 unfoldable pub pathLengthFits : ℕ → ℕ → Bool
 pathLengthFits p1 n = pick (eqb p1 0) (eqb n 2) (eqb (n % 2) 0 && (leb 2 n && leb n 16))
 
-unfoldable pub isNothing : Found → Bool
-isNothing (At e) = false
-isNothing Nothing = true
+unfoldable pub isFound : Found → Bool
+isFound (At e) = true
+isFound Nothing = false
 
 -- "INCREASE, .. record length at most 127"
 abbrev pub longestIncrease : ℕ
 longestIncrease = 127
 
 -- "kind (INCREASE: or record above 127)"
-unfoldable pub kindFits : Instruction → Row → Bool
+unfoldable pub kindFits : ℕ → Row → Bool
 kindFits i r =
-    pick (among i (ReadBinary ∷ UpdateBinary ∷ []))
+    pick (isBinary i)
     (isTransparent r)
-    (pick (among i (ReadRecord ∷ UpdateRecord ∷ Search ∷ []))
+    (pick (isRecord i)
     (hasRecords r)
-    (pick (among i (Increase ∷ [])) (isCyclic r && leb (r .«record») longestIncrease) true))
+    (pick (eqb i ins.increase) (isCyclic r && leb (r .«record») longestIncrease) true))
 
 -- "DC on cyclic: mode 03 only"
-unfoldable pub modeFits : Instruction → ℕ → Row → Bool
-modeFits i p2 r = not (among i (UpdateRecord ∷ []) && isCyclic r) || eqb p2 modePrevious
+abbrev pub modeFits : ℕ → ℕ → Row → Bool
+modeFits i p2 r = not (eqb i ins.updateRecord && isCyclic r) || eqb p2 modePrevious
 
 -- "deactivated 6984 (04, 44 exempt)"
-unfoldable pub stateFits : Instruction → Row → Bool
+abbrev pub stateFits : ℕ → Row → Bool
 stateFits i r = isSwitch i || not (isDeactivated r)
 
 -- whether a NEVER byte has a bit
-unfoldable pub hasBit : ℕ → ℕ → Bool
+abbrev pub hasBit : ℕ → ℕ → Bool
 hasBit never bit = eqb (never / bit % 2) 1
 
+-- "NEVER bit 6982"
+abbrev pub neverFits : ℕ → Row → Bool
+neverFits i r = not (hasBit (r .never) (neverBit i))
+
 -- "offset not below length"
-unfoldable pub offsetFits : Instruction → Command → Row → Bool
-offsetFits i c r = not (among i (ReadBinary ∷ UpdateBinary ∷ [])) || ltb (offsetOf c) (r .size)
+abbrev pub offsetFits : ℕ → ℕ → Row → Bool
+offsetFits i offset r = not (isBinary i) || ltb offset (r .size)
 
 -- "record 6A83"; DC on cyclic writes the oldest place, whatever the record number
-unfoldable pub recordFits : Instruction → Command → Session → File → Bool
-recordFits i c s f =
-    pick (among i (ReadRecord ∷ []))
-    (hasRecord (f .row) (recordNamed c s f))
-    (pick (among i (UpdateRecord ∷ []))
-    (isCyclic (f .row) || hasRecord (f .row) (recordNamed c s f))
-    (pick (among i (Search ∷ [])) (hasRecord (f .row) (absoluteRecord (c .p1) (s .number))) true))
+unfoldable pub recordFits : Command → ℕ → Row → Bool
+recordFits c number r =
+    not (isRecord (c .instruction))
+    || ((eqb (c .instruction) ins.updateRecord && isCyclic r) || hasRecord r (namedBy c number r))
 
 -- "P3 of B2 is 00 or the record length; Lc of DC is the record length"; "lengths against file or record 6700 (INCREASE, SEARCH: Lc
 -- above record length)"
-unfoldable pub lengthFits : Instruction → Command → ℕ → Row → Bool
-lengthFits i c lc r =
-    pick (among i (UpdateBinary ∷ []))
-    (leb (offsetOf c + lc) (r .size))
-    (pick (among i (ReadRecord ∷ []))
-    (eqb (c .p3) 0 || eqb (c .p3) (r .«record»))
-    (pick (among i (UpdateRecord ∷ []))
+unfoldable pub lengthFits : ℕ → ℕ → ℕ → ℕ → Row → Bool
+lengthFits i offset p3 lc r =
+    pick (eqb i ins.updateBinary)
+    (leb (offset + lc) (r .size))
+    (pick (eqb i ins.readRecord)
+    (eqb p3 0 || eqb p3 (r .«record»))
+    (pick (eqb i ins.updateRecord)
     (eqb lc (r .«record»))
-    (pick (among i (Search ∷ Increase ∷ [])) (leb lc (r .«record»)) true)))
+    (pick (eqb i ins.search || eqb i ins.increase) (leb lc (r .«record»)) true)))
 
 -- "sum too long": it has no room in the record's bytes
-unfoldable pub sumFits : Instruction → File → List ℕ → Bool
-sumFits i f «data» = not (among i (Increase ∷ [])) || ltb (sum f «data») (256 ^ f .row .«record»)
+unfoldable pub sumFits : ℕ → File → List ℕ → Bool
+sumFits i f «data» = not (eqb i ins.increase) || ltb (sum (f .row) (f .content) «data») (256 ^ f .row .«record»)
 
 -- "6581 exactly when U would pass 2,044"
 unfoldable pub journalFits : Situation → Bool
@@ -189,24 +187,25 @@ journalFits w = leb (w .file .used + cost (doneBy (w .command .instruction) w .w
 -- whether a check holds in a situation
 unfoldable pub holds : Situation → Check → Bool
 holds w brokenForm = w .command .whole
-holds w unknownInstruction = not (isUnknown (w .command .instruction))
+holds w unknownInstruction = isKnown (w .command .instruction)
 holds w wrongClass = eqb (w .command .class) (classOf (w .command .instruction))
 holds w bytesAfter = not (isOutgoing (w .command .instruction) && w .command .after)
-holds w wrongCase = caseFits (w .command) (w .«data»)
+holds w wrongCase = caseFits (w .command) (length (w .«data»))
 holds w wrongParameters = parametersFit (w .command .instruction) (w .command .p1) (w .command .p2)
 holds w wrongDomain = domainFits (w .command .instruction) (w .domain)
 holds w wrongPathLength = pathLengthFits (w .command .p1) (length (w .«data»))
-holds w notFound = not (isNothing (w .found))
+holds w notFound = isFound (w .found)
 holds w nothingWaits = leb 1 (w .session .valid)
 holds w moreThanWaits = leb (w .command .p3) (w .session .valid)
 holds w noFile = leb 1 (w .session .file)
 holds w wrongKind = kindFits (w .command .instruction) (w .file .row)
 holds w wrongMode = modeFits (w .command .instruction) (w .command .p2) (w .file .row)
 holds w isShut = stateFits (w .command .instruction) (w .file .row)
-holds w isNever = not (hasBit (w .file .row .never) (neverBit (w .command .instruction)))
-holds w offsetOutside = offsetFits (w .command .instruction) (w .command) (w .file .row)
-holds w noRecord = recordFits (w .command .instruction) (w .command) (w .session) (w .file)
-holds w wrongLength = lengthFits (w .command .instruction) (w .command) (length (w .«data»)) (w .file .row)
+holds w isNever = neverFits (w .command .instruction) (w .file .row)
+holds w offsetOutside = offsetFits (w .command .instruction) (offsetOf (w .command)) (w .file .row)
+holds w noRecord = recordFits (w .command) (w .session .number) (w .file .row)
+holds w wrongLength =
+    lengthFits (w .command .instruction) (offsetOf (w .command)) (w .command .p3) (length (w .«data»)) (w .file .row)
 holds w sumTooLong = sumFits (w .command .instruction) (w .file) (w .«data»)
 holds w journalFull = journalFits w
 
@@ -214,3 +213,8 @@ holds w journalFull = journalFits w
 unfoldable pub firstFailing : Situation → List Check → Option Check
 firstFailing w [] = none
 firstFailing w (k ∷ ks) = pick (holds w k) (firstFailing w ks) (some k)
+
+-- the word of a check that fails, and 0 for none
+unfoldable pub failWord : Option Check → ℕ
+failWord none = 0
+failWord (some k) = checkWord k

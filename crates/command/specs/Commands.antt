@@ -31,7 +31,7 @@ situation format domain c «data» s card =
       «data» = «data»;
       session = s;
       table = card .table;
-      found = find (card .table) s (c .p1) «data»;
+      found = find (card .table) (s .root) (s .directory) (c .p1) «data»;
       file = fileAt card (target s);
     }
 

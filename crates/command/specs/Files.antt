@@ -1,14 +1,14 @@
 -- What a file command may see, and the records that it names.
-use Prim.Native.Nat.{ℕ, zero, suc, _+_, _-_, _*_}
+use Prim.Native.Nat.{ℕ, zero, suc, _+_, _-_, _*_, _≤_, _<_}
 use mathlib.Core.Bool.{Bool, _&&_}
-use mathlib.Core.List.{List, [], _∷_}
+use mathlib.Core.List.{List, [], _∷_, _++_}
 use lib.Dec.{leb, ltb, eqb}
 use Rattle.octets.specs.Choice.{pick}
 use Rattle.octets.specs.Bytes.{part, contains, value}
 use Rattle.card.specs.declared.Row.{Row}
-use Rattle.card.specs.Row.{Card, rowOf, isCyclic, placeOfNewest}
+use Rattle.card.specs.Row.{Card, Narrow, rowOf, isCyclic, placeOfNewest}
 use Rattle.card.specs.Sound.{recordCount}
-use Rattle.card.specs.Records.{recordOffset, recordPlace, oldestPlace}
+use Rattle.card.specs.Records.{recordOffset, oldestPlace}
 use Rattle.journal.specs.Entries.{usedBytes, room}
 use Rattle.journal.specs.Changes.{Write, fileMemory, tableMemory}
 use Rattle.session.specs.Session.{none}
@@ -72,9 +72,17 @@ numberAfter p2 number named = pick (eqb p2 modeAbsolute) number named
 unfoldable pub hasRecord : Row → ℕ → Bool
 hasRecord r number = leb 1 number && leb number (recordCount r)
 
--- the bytes of a record
-unfoldable pub recordBytes : File → ℕ → List ℕ
-recordBytes f number = part (f .content) (recordOffset (f .row) number) (f .row .«record»)
+-- what every record file of a sound table has, over a file memory of so many bytes
+pub record Recorded (files : ℕ) (r : Row) : Type 0 where
+  pub narrow : Narrow r
+  pub least : 1 ≤ r .«record»
+  pub counted : 1 ≤ recordCount r
+  pub most : recordCount r < 255
+  pub inside : r .start + r .size ≤ files
+
+-- the bytes of a record of a file, in its content
+unfoldable pub recordBytes : Row → List ℕ → ℕ → List ℕ
+recordBytes r content number = part content (recordOffset r number) (r .«record»)
 
 -- "A2 SEARCH, P2 04 from record P1 .. to the last, 05 back to the first"
 abbrev pub searchForward : ℕ
@@ -83,29 +91,30 @@ searchForward = 4
 abbrev pub searchBackward : ℕ
 searchBackward = 5
 
--- of n records, counted up or down from a number on: those that contain the data, in that order
-unfoldable pub foundUp : File → List ℕ → ℕ → ℕ → List ℕ
-foundUp f «data» zero number = []
-foundUp f «data» (suc n) number =
-    pick (contains (recordBytes f number) «data»)
-    (number ∷ foundUp f «data» n (number + 1))
-    (foundUp f «data» n (number + 1))
+-- a number, if it was found
+unfoldable pub noted : Bool → ℕ → List ℕ
+noted found number = pick found (number ∷ []) []
 
-unfoldable pub foundDown : File → List ℕ → ℕ → List ℕ
-foundDown f «data» zero = []
-foundDown f «data» (suc n) =
-    pick (contains (recordBytes f (suc n)) «data») (suc n ∷ foundDown f «data» n) (foundDown f «data» n)
+-- the number that comes next, and how many records are to be searched from a number on
+unfoldable pub nextSearched : ℕ → ℕ → ℕ
+nextSearched p2 number = pick (eqb p2 searchForward) (number + 1) (number - 1)
 
--- "numbers of records that contain the data, in that order"
-unfoldable pub foundRecords : File → ℕ → List ℕ → ℕ → List ℕ
-foundRecords f p2 «data» number =
-    pick (eqb p2 searchForward)
-    (foundUp f «data» (recordCount (f .row) + 1 - number) number)
-    (foundDown f «data» number)
+unfoldable pub toSearch : Row → ℕ → ℕ → ℕ
+toSearch r p2 number = pick (eqb p2 searchForward) (recordCount r + 1 - number) number
+
+-- of n records from a number on: "numbers of records that contain the data, in that order"
+unfoldable pub foundAmong : Row → List ℕ → ℕ → List ℕ → ℕ → ℕ → List ℕ
+foundAmong r content p2 «data» zero number = []
+foundAmong r content p2 «data» (suc n) number =
+    noted (contains (recordBytes r content number) «data») number
+    ++ foundAmong r content p2 «data» n (nextSearched p2 number)
+
+unfoldable pub foundRecords : Row → List ℕ → ℕ → List ℕ → ℕ → List ℕ
+foundRecords r content p2 «data» number = foundAmong r content p2 «data» (toSearch r p2 number) number
 
 -- "INCREASE, .. record 1 plus the data"
-unfoldable pub sum : File → List ℕ → ℕ
-sum f «data» = value (recordBytes f 1) + value «data»
+unfoldable pub sum : Row → List ℕ → List ℕ → ℕ
+sum r content «data» = value (recordBytes r content 1) + value «data»
 
 -- bytes written into a file, at an offset in it
 unfoldable pub writeIn : File → ℕ → List ℕ → Write

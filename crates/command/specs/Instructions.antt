@@ -1,67 +1,66 @@
--- The instructions, and what the paper asks of each by name.
+-- The instructions by their byte, and what the paper asks of each.
 use Prim.Native.Nat.{ℕ}
-use mathlib.Core.Bool.{Bool, false, _||_}
-use mathlib.Core.List.{List, [], _∷_}
+use mathlib.Core.Bool.{Bool, _&&_, _||_}
 use lib.Dec.{eqb}
 use Rattle.octets.specs.Choice.{pick}
-use Rattle.command.specs.declared.Instruction.{Instruction}
-use Rattle.command.specs.declared.Instruction.the-variants.{Select, ReadBinary, UpdateBinary, ReadRecord, UpdateRecord, Search, Increase, Deactivate, Activate, GetResponse, Unknown}
 
--- the byte of an instruction; no instruction has 00
-unfoldable pub byteOf : Instruction → ℕ
-byteOf Select = 0xA4
-byteOf ReadBinary = 0xB0
-byteOf UpdateBinary = 0xD6
-byteOf ReadRecord = 0xB2
-byteOf UpdateRecord = 0xDC
-byteOf Search = 0xA2
-byteOf Increase = 0x32
-byteOf Deactivate = 0x04
-byteOf Activate = 0x44
-byteOf GetResponse = 0xC0
-byteOf Unknown = 0x00
+abbrev pub select : ℕ
+select = 0xA4
 
--- whether an instruction is one of a list
-unfoldable pub among : Instruction → List Instruction → Bool
-among i [] = false
-among i (j ∷ js) = eqb (byteOf i) (byteOf j) || among i js
+abbrev pub readBinary : ℕ
+readBinary = 0xB0
 
--- the instruction of a list that a byte names
-unfoldable pub named : ℕ → List Instruction → Instruction
-named b [] = Unknown
-named b (i ∷ is) = pick (eqb b (byteOf i)) i (named b is)
+abbrev pub updateBinary : ℕ
+updateBinary = 0xD6
 
--- the instruction that a byte names
-unfoldable pub instructionOf : ℕ → Instruction
-instructionOf b =
-    named b
-    (Select
-    ∷ ReadBinary
-    ∷ UpdateBinary
-    ∷ ReadRecord
-    ∷ UpdateRecord
-    ∷ Search
-    ∷ Increase
-    ∷ Deactivate
-    ∷ Activate
-    ∷ GetResponse
-    ∷ [])
+abbrev pub readRecord : ℕ
+readRecord = 0xB2
+
+abbrev pub updateRecord : ℕ
+updateRecord = 0xDC
+
+abbrev pub search : ℕ
+search = 0xA2
+
+abbrev pub increase : ℕ
+increase = 0x32
+
+abbrev pub deactivate : ℕ
+deactivate = 0x04
+
+abbrev pub activate : ℕ
+activate = 0x44
+
+abbrev pub getResponse : ℕ
+getResponse = 0xC0
 
 -- "A4, D6, DC, A2 and 32 carry P3 data bytes"
-unfoldable pub carriesData : Instruction → Bool
-carriesData i = among i (Select ∷ UpdateBinary ∷ UpdateRecord ∷ Search ∷ Increase ∷ [])
+abbrev pub carriesData : ℕ → Bool
+carriesData i =
+    eqb i select || (eqb i updateBinary || (eqb i updateRecord || (eqb i search || eqb i increase)))
 
 -- "B0, B2, C0": the outgoing commands
-unfoldable pub isOutgoing : Instruction → Bool
-isOutgoing i = among i (ReadBinary ∷ ReadRecord ∷ GetResponse ∷ [])
+abbrev pub isOutgoing : ℕ → Bool
+isOutgoing i = eqb i readBinary || (eqb i readRecord || eqb i getResponse)
 
 -- "04, 44": deactivate and activate
-unfoldable pub isSwitch : Instruction → Bool
-isSwitch i = among i (Deactivate ∷ Activate ∷ [])
+abbrev pub isSwitch : ℕ → Bool
+isSwitch i = eqb i deactivate || eqb i activate
+
+-- the instructions that there are
+abbrev pub isKnown : ℕ → Bool
+isKnown i = carriesData i || (isOutgoing i || isSwitch i)
+
+-- B0 and D6 work on transparent files, B2, DC and A2 on record files
+abbrev pub isBinary : ℕ → Bool
+isBinary i = eqb i readBinary || eqb i updateBinary
+
+abbrev pub isRecord : ℕ → Bool
+isRecord i = eqb i readRecord || (eqb i updateRecord || eqb i search)
 
 -- "Class 00, INCREASE 80."
-unfoldable pub classOf : Instruction → ℕ
-classOf i = pick (among i (Increase ∷ [])) 0x80 0x00
+unfoldable pub classOf : ℕ → ℕ
+classOf i = pick (eqb i increase) 0x80 0x00
 
 -- "P2 0C no data, 04 FCP."
 abbrev pub noData : ℕ
@@ -71,15 +70,15 @@ abbrev pub withFcp : ℕ
 withFcp = 0x04
 
 -- "04, 44 need 1; B0, B2, C0 2; SELECT 0C, D6, DC 3; the rest 4"; a SELECT's P2 tells
-unfoldable pub caseOf : Instruction → ℕ → ℕ
+unfoldable pub caseOf : ℕ → ℕ → ℕ
 caseOf i p2 =
     pick (isSwitch i) 1
     (pick (isOutgoing i) 2
-    (pick (among i (UpdateBinary ∷ UpdateRecord ∷ [])) 3 (pick (among i (Select ∷ [])) (pick (eqb p2 noData) 3 4) 4)))
+    (pick (eqb i updateBinary || (eqb i updateRecord || (eqb i select && eqb p2 noData))) 3 4))
 
 -- "NEVER bits: 1 read and search, 2 update, 4 increase, 8 deactivate, 16 activate"
-unfoldable pub neverBit : Instruction → ℕ
+unfoldable pub neverBit : ℕ → ℕ
 neverBit i =
-    pick (among i (ReadBinary ∷ ReadRecord ∷ Search ∷ [])) 1
-    (pick (among i (UpdateBinary ∷ UpdateRecord ∷ [])) 2
-    (pick (among i (Increase ∷ [])) 4 (pick (among i (Deactivate ∷ [])) 8 16)))
+    pick (eqb i readBinary || (eqb i readRecord || eqb i search)) 1
+    (pick (eqb i updateBinary || eqb i updateRecord) 2
+    (pick (eqb i increase) 4 (pick (eqb i deactivate) 8 16)))

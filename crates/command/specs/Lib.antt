@@ -4,3 +4,4 @@ pub mod Files
 pub mod Plans
 pub mod Checks
 pub mod Commands
+pub mod Sums

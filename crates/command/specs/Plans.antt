@@ -9,16 +9,15 @@ use Rattle.card.specs.declared.tree.Found.{Found}
 use Rattle.card.specs.declared.tree.Found.the-variants.{At, Nothing}
 use Rattle.card.specs.Row.{rowOf, isCyclic, isDeactivated, activated, deactivated, placeOfState}
 use Rattle.card.specs.Records.{recordOffset}
-use Rattle.journal.specs.Changes.{Write, tableMemory}
+use Rattle.journal.specs.Changes.{tableMemory}
 use Rattle.session.specs.declared.Session.{Session}
 use Rattle.session.specs.Session.{atRecord, selected}
 use Rattle.session.specs.Fcp.{fcp}
 use Rattle.command.specs.declared.Format.{Format}
 use Rattle.command.specs.declared.Format.the-variants.{Compact, Expanded}
-use Rattle.command.specs.declared.Instruction.{Instruction}
-use Rattle.command.specs.declared.Instruction.the-variants.{Select, ReadBinary, UpdateBinary, ReadRecord, UpdateRecord, Search, Increase, Deactivate, Activate, GetResponse, Unknown}
 use Rattle.command.specs.declared.Command.{Command}
 use Rattle.command.specs.declared.Outcome.the-variants.{FromWaiting}
+use Rattle.command.specs.Instructions as ins
 use Rattle.command.specs.Instructions.{noData}
 use Rattle.command.specs.Outcomes.{Plan, failed, done, handed, produced, normal, endOfData, selectedDeactivated}
 use Rattle.command.specs.Files.{File, namedRecord, numberAfter, absoluteRecord, foundRecords, sum, writeIn, newRecord}
@@ -72,25 +71,30 @@ readBinary format c s f =
 unfoldable pub updateBinary : Command → List ℕ → Session → File → Plan
 updateBinary c «data» s f = done s normal (writeIn f (offsetOf c) «data» ∷ [])
 
--- the record that a command names
-abbrev pub recordNamed : Command → Session → File → ℕ
-recordNamed c s f = namedRecord (f .row) (c .p1) (c .p2) (s .number)
+-- the record that a command names, from the current record number: A2 as B2 and DC do in their absolute mode
+unfoldable pub namedBy : Command → ℕ → Row → ℕ
+namedBy c number r =
+    pick (eqb (c .instruction) ins.search)
+    (absoluteRecord (c .p1) number)
+    (namedRecord r (c .p1) (c .p2) number)
 
 -- B2 and DC: the record number after a record was named
-unfoldable pub atNamed : Command → Session → File → Session
-atNamed c s f = atRecord s (numberAfter (c .p2) (s .number) (recordNamed c s f))
+unfoldable pub atNamed : Command → Session → ℕ → Session
+atNamed c s number = atRecord s (numberAfter (c .p2) (s .number) number)
 
 -- B2 READ RECORD
 unfoldable pub readRecord : Command → Session → File → Plan
 readRecord c s f =
-    handed (atNamed c s f) normal (f .row .start + recordOffset (f .row) (recordNamed c s f)) (f .row .«record»)
+    let number : ℕ = namedBy c (s .number) (f .row) in
+    handed (atNamed c s number) normal (f .row .start + recordOffset (f .row) number) (f .row .«record»)
 
 -- DC UPDATE RECORD; "on cyclic: .. it writes the oldest place, which becomes newest, record number 1"
 unfoldable pub updateRecord : Command → List ℕ → Session → File → Plan
 updateRecord c «data» s f =
+    let number : ℕ = namedBy c (s .number) (f .row) in
     pick (isCyclic (f .row))
     (done (atRecord s 1) normal (newRecord f «data»))
-    (done (atNamed c s f) normal (writeIn f (recordOffset (f .row) (recordNamed c s f)) «data» ∷ []))
+    (done (atNamed c s number) normal (writeIn f (recordOffset (f .row) number) «data» ∷ []))
 
 -- A2 SEARCH: "the first becomes current. None: 6282, no data."
 unfoldable pub searched : Format → Session → List ℕ → Plan
@@ -99,12 +103,12 @@ searched format s (r ∷ rs) = produced format (atRecord s r) normal (r ∷ rs) 
 
 unfoldable pub search : Format → Command → List ℕ → Session → File → Plan
 search format c «data» s f =
-    searched format s (foundRecords f (c .p2) «data» (absoluteRecord (c .p1) (s .number)))
+    searched format s (foundRecords (f .row) (f .content) (c .p2) «data» (namedBy c (s .number) (f .row)))
 
 -- "32 INCREASE, ..: record 1 plus the data becomes the new record 1, as DC would. Data: new record, then the added bytes."
 unfoldable pub increase : Format → List ℕ → Session → File → Plan
 increase format «data» s f =
-    let new : List ℕ = bytesOf (f .row .«record») (sum f «data») in
+    let new : List ℕ = bytesOf (f .row .«record») (sum (f .row) (f .content) «data») in
     produced format (atRecord s 1) normal (new ++ «data») (newRecord f new)
 
 -- "04, 44 .. deactivate, activate the current file; repeating it is 9000, journalled too."
@@ -118,15 +122,15 @@ getResponse c s =
     record { session = s; outcome = FromWaiting (s .kept) (pick (eqb (c .p3) 0) (s .valid) (c .p3)); writes = [] }
 
 -- what an instruction does in a situation where every check holds
-unfoldable pub doneBy : Instruction → Situation → Plan
-doneBy Select w = select (w .format) (w .session) (w .command .p2) (w .table) (w .found)
-doneBy ReadBinary w = readBinary (w .format) (w .command) (w .session) (w .file)
-doneBy UpdateBinary w = updateBinary (w .command) (w .«data») (w .session) (w .file)
-doneBy ReadRecord w = readRecord (w .command) (w .session) (w .file)
-doneBy UpdateRecord w = updateRecord (w .command) (w .«data») (w .session) (w .file)
-doneBy Search w = search (w .format) (w .command) (w .«data») (w .session) (w .file)
-doneBy Increase w = increase (w .format) (w .«data») (w .session) (w .file)
-doneBy Deactivate w = switch deactivated (w .session) (w .file)
-doneBy Activate w = switch activated (w .session) (w .file)
-doneBy GetResponse w = getResponse (w .command) (w .session)
-doneBy Unknown w = failed (w .session) 0x6D00
+unfoldable pub doneBy : ℕ → Situation → Plan
+doneBy i w =
+    pick (eqb i ins.select) (select (w .format) (w .session) (w .command .p2) (w .table) (w .found))
+    (pick (eqb i ins.readBinary) (readBinary (w .format) (w .command) (w .session) (w .file))
+    (pick (eqb i ins.updateBinary) (updateBinary (w .command) (w .«data») (w .session) (w .file))
+    (pick (eqb i ins.readRecord) (readRecord (w .command) (w .session) (w .file))
+    (pick (eqb i ins.updateRecord) (updateRecord (w .command) (w .«data») (w .session) (w .file))
+    (pick (eqb i ins.search) (search (w .format) (w .command) (w .«data») (w .session) (w .file))
+    (pick (eqb i ins.increase) (increase (w .format) (w .«data») (w .session) (w .file))
+    (pick (eqb i ins.deactivate) (switch deactivated (w .session) (w .file))
+    (pick (eqb i ins.activate) (switch activated (w .session) (w .file))
+    (getResponse (w .command) (w .session))))))))))

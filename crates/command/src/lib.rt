@@ -1,4 +1,10 @@
 // One command, in its parsed form.
+pub mod checks;
+pub mod instruction;
+pub mod records;
+pub mod search;
+pub mod sum;
+
 use session::Session;
 
 // The format of a script and of its answer.
@@ -7,27 +13,12 @@ pub enum Format {
     Expanded,
 }
 
-// The instructions.
-pub enum Instruction {
-    Select,
-    ReadBinary,
-    UpdateBinary,
-    ReadRecord,
-    UpdateRecord,
-    Search,
-    Increase,
-    Deactivate,
-    Activate,
-    GetResponse,
-    Unknown,
-}
-
 // A command as both formats read it: whether its form is whole, its header (p3 is Le, or what stands in its place in a compact
 // command), the case that it has, and whether it is a compact command with bytes after it. Its data are lent beside it.
 pub struct Command {
     pub whole: bool,
     pub class: usize,
-    pub instruction: Instruction,
+    pub instruction: usize,
     pub p1: usize,
     pub p2: usize,
     pub p3: usize,

@@ -9,12 +9,10 @@ use Rattle.octets.specs.Bytes.{byte, bytes2, part}
 use Rattle.card.specs.Row.{Card}
 use Rattle.session.specs.Session.{start}
 use Rattle.command.specs.declared.Format.the-variants.{Compact}
-use Rattle.command.specs.declared.Instruction.{Instruction}
-use Rattle.command.specs.declared.Instruction.the-variants.{Unknown}
 use Rattle.command.specs.declared.Command.{Command}
 use Rattle.command.specs.declared.Reading.{Reading}
 use Rattle.command.specs.declared.Outcome.the-variants.{Well}
-use Rattle.command.specs.Instructions.{instructionOf, carriesData, caseOf}
+use Rattle.command.specs.Instructions.{carriesData, caseOf}
 use Rattle.command.specs.Outcomes.{normal, wordOf, dataOf, goesOn}
 use Rattle.command.specs.Commands.{State, started, Moved, planned, situation, carriedOut, stepped}
 
@@ -23,11 +21,11 @@ abbrev pub headerSize : ℕ
 headerSize = 5
 
 -- "04 and 44 need P3 00": with another P3 they have the form of case 2
-unfoldable pub compactCase : Instruction → ℕ → ℕ → ℕ
+unfoldable pub compactCase : ℕ → ℕ → ℕ → ℕ
 compactCase i p2 p3 = pick (eqb (caseOf i p2) 1 && not (eqb p3 0)) 2 (caseOf i p2)
 
 -- how many data bytes stand behind a header
-unfoldable pub dataBehind : Instruction → ℕ → ℕ
+unfoldable pub dataBehind : ℕ → ℕ → ℕ
 dataBehind i p3 = pick (carriesData i) p3 0
 
 -- "Too few bytes: 6700, counted."
@@ -38,7 +36,7 @@ broken script =
           record {
             whole = false;
             class = 0;
-            instruction = Unknown;
+            instruction = 0;
             p1 = 0;
             p2 = 0;
             p3 = 0;
@@ -50,7 +48,7 @@ broken script =
     }
 
 -- a command of which header and data are there
-unfoldable pub wholeAt : List ℕ → ℕ → Instruction → ℕ → Reading
+unfoldable pub wholeAt : List ℕ → ℕ → ℕ → ℕ → Reading
 wholeAt script at i count =
     record {
       command =
@@ -71,7 +69,7 @@ wholeAt script at i count =
 -- the command whose header is there, with its data
 unfoldable pub headedAt : List ℕ → ℕ → Reading
 headedAt script at =
-    let i : Instruction = instructionOf (byte script (at + 1)) in
+    let i : ℕ = byte script (at + 1) in
     let count : ℕ = dataBehind i (byte script (at + 4)) in
     pick (leb (at + headerSize + count) (length script)) (wholeAt script at i count) (broken script)
 

@@ -24,9 +24,12 @@ pub record Result : Type 0 where
   pub card : Card
   pub response : List ℕ
 
--- "All return length 0 and count 0 and change no lent byte."
-unfoldable pub untouched : ℕ → Card → List ℕ → Result
-untouched number c response = record { answer = record { number = number; length = 0; count = 0 }; card = c; response = response }
+abbrev pub gives : Answer → Card → List ℕ → Result
+gives answer card response = record { answer = answer; card = card; response = response }
+
+-- a number alone: length 0 and count 0
+abbrev pub numbered : ℕ → Answer
+numbered number = record { number = number; length = 0; count = 0 }
 
 -- an accepted run: "Response memory after the answer's last byte keeps its content."
 unfoldable pub accepted : State → List ℕ → List ℕ → Result
@@ -37,9 +40,9 @@ accepted st answer response =
       response = overwrite response 0 answer;
     }
 
--- a call that is done where no number is given
+-- a call that is done where no number is given; "All return length 0 and count 0 and change no lent byte."
 unfoldable pub unlessRefused : ℕ → Card → List ℕ → Result → Result
-unlessRefused number c response r = elim (eqb number 0) [ true ↦ r | false ↦ untouched number c response ]
+unlessRefused number c response r = elim (eqb number 0) [ true ↦ r | false ↦ gives (numbered number) c response ]
 
 -- a script of a format, on a card whose journal has the script's mark
 unfoldable pub runScript : Format → Arguments → Card → Result
@@ -59,7 +62,7 @@ run a c =
 
 -- "a take-back or confirmation has length and count 0"; neither is lent response memory
 unfoldable pub takeBack : Card → Result
-takeBack c = unlessRefused (firstGiven (takeBackRefusals c)) c [] (untouched 0 (takenBack c) [])
+takeBack c = unlessRefused (firstGiven (takeBackRefusals c)) c [] (gives (numbered 0) (takenBack c) [])
 
 unfoldable pub confirm : Card → Result
-confirm c = unlessRefused (firstGiven (confirmRefusals c)) c [] (untouched 0 (confirmed c) [])
+confirm c = unlessRefused (firstGiven (confirmRefusals c)) c [] (gives (numbered 0) (confirmed c) [])

@@ -2,3 +2,4 @@ pub mod Numbers
 pub mod Calls
 pub mod Hex
 pub mod Worked
+pub mod History

@@ -7,7 +7,6 @@ use lib.Dec.{leb, eqb}
 use Rattle.octets.specs.Choice.{pick}
 use Rattle.octets.specs.Bytes.{byte}
 use Rattle.command.specs.declared.Reading.{Reading}
-use Rattle.command.specs.Instructions.{instructionOf}
 
 -- the case of a C-APDU by its size, and 0 for no case's size
 unfoldable pub caseBySize : List ℕ → ℕ
@@ -29,7 +28,7 @@ capduCommand capdu =
           record {
             whole = leb 1 (caseBySize capdu);
             class = byte capdu 0;
-            instruction = instructionOf (byte capdu 1);
+            instruction = byte capdu 1;
             p1 = byte capdu 2;
             p2 = byte capdu 3;
             p3 = byte capdu 4;

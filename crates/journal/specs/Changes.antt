@@ -7,7 +7,7 @@ use lib.Dec.{eqb, leb}
 use Rattle.octets.specs.Choice.{pick}
 use Rattle.octets.specs.Bytes.{part, overwrite, zeros}
 use Rattle.card.specs.Row.{Card}
-use Rattle.journal.specs.Entries.{Entry, headSize, head, usedBytes, scriptsOnTrial, entryBytes, encode, holdsFileBytes, holdsTableByte, isMark, mark, entriesOf}
+use Rattle.journal.specs.Entries.{Entry, entryOf, headSize, head, usedBytes, scriptsOnTrial, entryBytes, encode, holdsFileBytes, holdsTableByte, isMark, mark, entriesOf}
 
 -- the memories that a command writes
 pub data Memory : Type 0 where
@@ -32,13 +32,17 @@ unfoldable pub withMemory : Memory → Card → List ℕ → Card
 withMemory fileMemory c m = record { table = c .table; files = m; journal = c .journal }
 withMemory tableMemory c m = record { table = m; files = c .files; journal = c .journal }
 
--- the journal with one more entry, and so many scripts on trial
-unfoldable pub pushed : List ℕ → ℕ → Entry → List ℕ
-pushed j scripts e =
+-- the journal with one more entry behind its first u bytes of entries, and so many scripts on trial
+unfoldable pub pushedAt : List ℕ → ℕ → ℕ → Entry → List ℕ
+pushedAt j u scripts e =
     overwrite
-    (overwrite j (headSize + usedBytes j) (encode e))
+    (overwrite j (headSize + u) (encode e))
     0
-    (head (usedBytes j + length (encode e)) scripts 0)
+    (head (u + length (encode e)) scripts 0)
+
+-- the journal with one more entry
+unfoldable pub pushed : List ℕ → ℕ → Entry → List ℕ
+pushed j scripts e = pushedAt j (usedBytes j) scripts e
 
 -- "Each accepted run appends a mark (8 bytes)."
 unfoldable pub marked : List ℕ → List ℕ

@@ -5,6 +5,7 @@ use mathlib.Core.List.{List, [], _∷_, _++_}
 use lib.ListN.{length}
 use lib.Dec.{leb, eqb}
 use Rattle.octets.specs.Bytes.{byte, numAt, bytes2, part, same}
+use Rattle.journal.specs.declared.Tail.{Tail}
 
 -- the head's four bytes
 abbrev pub headSize : ℕ
@@ -30,6 +31,9 @@ pub record Entry : Type 0 where
   pub kind : ℕ
   pub place : ℕ
   pub old : List ℕ
+
+abbrev pub entryOf : ℕ → ℕ → List ℕ → Entry
+entryOf kind place old = record { kind = kind; place = place; old = old }
 
 abbrev pub tailSize : ℕ
 tailSize = 8
@@ -61,34 +65,42 @@ isMark e = eqb (e .kind) marksStart
 
 -- a script's mark
 unfoldable pub mark : Entry
-mark = record { kind = marksStart; place = 0; old = [] }
+mark = entryOf marksStart 0 []
 
--- the tail that ends where the first u bytes of entries end
-unfoldable pub tailAt : List ℕ → ℕ → List ℕ
-tailAt j u = part j (headSize + u - tailSize) tailSize
+-- the bytes of the tail that ends where the first u bytes of entries end, and what they hold
+unfoldable pub tailBytes : List ℕ → ℕ → List ℕ
+tailBytes j u = part j (headSize + u - tailSize) tailSize
 
--- what that tail says of the number of old bytes
-unfoldable pub oldCount : List ℕ → ℕ → ℕ
-oldCount j u = numAt (tailAt j u) 4
+unfoldable pub tailIn : List ℕ → Tail
+tailIn bs = record { kind = byte bs 0; place = numAt bs 2; count = numAt bs 4 }
+
+unfoldable pub tailAt : List ℕ → ℕ → Tail
+tailAt j u = tailIn (tailBytes j u)
+
+-- whether bytes have the form of a tail
+unfoldable pub formed : List ℕ → Bool
+formed bs = same bs (tail (tailIn bs .kind) (tailIn bs .place) (tailIn bs .count))
+
+-- where the old bytes stand of the entry that ends there
+unfoldable pub oldPlace : List ℕ → ℕ → ℕ
+oldPlace j u = headSize + u - entryBytes (tailAt j u .count)
 
 -- the entry that ends where the first u bytes of entries end
 unfoldable pub entryAt : List ℕ → ℕ → Entry
 entryAt j u =
     record {
-      kind = byte (tailAt j u) 0;
-      place = numAt (tailAt j u) 2;
-      old = part j (headSize + u - entryBytes (oldCount j u)) (oldCount j u);
+      kind = tailAt j u .kind;
+      place = tailAt j u .place;
+      old = part j (oldPlace j u) (tailAt j u .count);
     }
 
--- whether a whole entry ends there: its tail is in the form of a tail, and its bytes are there
+-- whether a whole entry ends there: its bytes are there, and its tail has the form of a tail
 unfoldable pub readable : List ℕ → ℕ → Bool
-readable j u =
-    leb (entryBytes (oldCount j u)) u
-    && same (tailAt j u) (tail (byte (tailAt j u) 0) (numAt (tailAt j u) 2) (oldCount j u))
+readable j u = leb (entryBytes (tailAt j u .count)) u && formed (tailBytes j u)
 
 -- what stands for bytes that are no entry; its kind is none
 unfoldable pub noEntry : Entry
-noEntry = record { kind = 0; place = 0; old = [] }
+noEntry = entryOf 0 0 []
 
 -- at most n entries, "read back from the end" of the first u bytes: newest first; the last is `noEntry` where they do not fill u exactly
 unfoldable pub entriesBack : ℕ → List ℕ → ℕ → List Entry
@@ -97,7 +109,7 @@ entriesBack (suc n) j u =
     elim (eqb u 0) [
       | true ↦ []
       | false ↦ elim (readable j u) [
-        | true ↦ entryAt j u ∷ entriesBack n j (u - entryBytes (oldCount j u))
+        | true ↦ entryAt j u ∷ entriesBack n j (u - entryBytes (tailAt j u .count))
         | false ↦ noEntry ∷ []
       ]
     ]

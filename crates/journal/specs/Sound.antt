@@ -35,18 +35,25 @@ unfoldable pub tableByteSound : Row → ℕ → ℕ → Bool
 tableByteSound r at old =
     pick (eqb at 10) (isFile r && stateSound old) (eqb at 9 && (isCyclic r && newestSound r old))
 
--- one entry, beside a table and a file memory of so many bytes; "Places lie inside their memory."
+-- a place of the table: "Places lie inside their memory."
+unfoldable pub tablePlaceSound : List ℕ → ℕ → ℕ → Bool
+tablePlaceSound t place old =
+    ltb (place / entrySize) (entries t)
+    && tableByteSound (rowOf t (place / entrySize)) (place % entrySize) old
+
+-- an entry of a kind, with its place, its number n of old bytes and the first of these, beside a table and a file memory of so
+-- many bytes; "Places lie inside their memory."
+unfoldable pub formSound : List ℕ → ℕ → ℕ → ℕ → ℕ → ℕ → Bool
+formSound t files kind place n old =
+    pick (eqb kind marksStart)
+    (eqb place 0 && eqb n 0)
+    (pick (eqb kind holdsFileBytes)
+    (leb 1 n && (leb n mostOldBytes && leb (place + n) files))
+    (eqb kind holdsTableByte && (eqb n 1 && tablePlaceSound t place old)))
+
+-- one entry
 unfoldable pub entrySound : List ℕ → ℕ → Entry → Bool
-entrySound t files e =
-    pick (eqb (e .kind) marksStart)
-    (eqb (e .place) 0 && eqb (length (e .old)) 0)
-    (pick (eqb (e .kind) holdsFileBytes)
-    (leb 1 (length (e .old))
-    && (leb (length (e .old)) mostOldBytes && leb (e .place + length (e .old)) files))
-    (eqb (e .kind) holdsTableByte
-    && (eqb (length (e .old)) 1
-    && (ltb (e .place / entrySize) (entries t)
-    && tableByteSound (rowOf t (e .place / entrySize)) (e .place % entrySize) (byte (e .old) 0)))))
+entrySound t files e = formSound t files (e .kind) (e .place) (length (e .old)) (byte (e .old) 0)
 
 -- every entry of a list
 unfoldable pub allSound : List ℕ → ℕ → List Entry → Bool
@@ -54,10 +61,12 @@ allSound t files [] = true
 allSound t files (e ∷ es) = entrySound t files e && allSound t files es
 
 -- "the oldest is a mark"; with no entry there is no oldest
+unfoldable pub lastIsMark : Bool → List Entry → Bool
+lastIsMark last [] = last
+lastIsMark last (e ∷ es) = lastIsMark (isMark e) es
+
 unfoldable pub oldestIsMark : List Entry → Bool
-oldestIsMark [] = true
-oldestIsMark (e ∷ []) = isMark e
-oldestIsMark (e ∷ d ∷ es) = oldestIsMark (d ∷ es)
+oldestIsMark es = lastIsMark true es
 
 -- how many marks there are
 unfoldable pub marks : List Entry → ℕ

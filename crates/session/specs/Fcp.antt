@@ -1,6 +1,6 @@
 -- "FCP: 62, length, then 82 02 (78 directory, 41 transparent) 21, or 82 05 (42 linear, 46 cyclic) 21, record length in 2
 -- bytes, record count; 83 02 identifier; 8A 01 state; for files 80 02 length."
-use Prim.Native.Nat.{ℕ}
+use Prim.Native.Nat.{ℕ, _≤_, _<_}
 use mathlib.Core.List.{List, [], _∷_, _++_}
 use lib.ListN.{length}
 use Rattle.octets.specs.Choice.{pick}
@@ -8,6 +8,12 @@ use Rattle.octets.specs.Bytes.{bytes2}
 use Rattle.card.specs.declared.Row.{Row}
 use Rattle.card.specs.Row.{isDirectory, isTransparent, isLinear, hasRecords}
 use Rattle.card.specs.Sound.{recordCount}
+
+-- what the FCP needs of an entry, and every entry of a sound table has: a kind, and as a record file records that a byte counts
+pub record FcpFits (r : Row) : Type 0 where
+  pub least : 1 ≤ r .kind
+  pub most : r .kind ≤ 6
+  pub records : 5 ≤ r .kind → (1 ≤ r .«record») × (recordCount r < 256)
 
 -- the file descriptor byte
 unfoldable pub descriptor : Row → ℕ

@@ -1,3 +1,4 @@
 pub mod Session
 pub mod Select
 pub mod Fcp
+pub mod Good

@@ -1,9 +1,6 @@
 -- "Each script starts afresh."
 use Prim.Native.Nat.{ℕ}
-use mathlib.Core.Bool.{Bool}
 use mathlib.Core.List.{List}
-use lib.Dec.{eqb}
-use lib.ListN.{length}
 use Rattle.octets.specs.Choice.{pick}
 use Rattle.octets.specs.Bytes.{overwrite, zeros}
 use Rattle.card.specs.declared.Row.{Row}

@@ -1,0 +1,4 @@
+pub mod Places
+pub mod Kin
+pub mod Promises
+pub mod Kept

@@ -1,0 +1,124 @@
+-- `card::row_of` meets its contract: field by field what `num_at` and `wide` ensure. Assumes nothing.
+use Rattle.card.specs.Row.{row}
+use borrow.Author.Needs.{needs}
+use Rattle.card.proofs.row_of.Statement.{statement}
+use Rattle.card.proofs.row_of.Tie as tie
+
+num-at-requires : tie.Need-num-at-requires
+num-at-requires c κs = search needs
+
+shared-slice-read-wide : tie.Need-shared-slice-read-wide
+shared-slice-read-wide c = search needs
+
+wide-requires : tie.Need-wide-requires
+wide-requires c κs = search needs
+
+shared-slice-read-wide-2 : tie.Need-shared-slice-read-wide-2
+shared-slice-read-wide-2 c = search needs
+
+wide-requires-2 : tie.Need-wide-requires-2
+wide-requires-2 c κs = search needs
+
+num-at-requires-2 : tie.Need-num-at-requires-2
+num-at-requires-2 c κs = search needs
+
+num-at-requires-3 : tie.Need-num-at-requires-3
+num-at-requires-3 c κs = search needs
+
+shared-slice-read-wide-3 : tie.Need-shared-slice-read-wide-3
+shared-slice-read-wide-3 c = search needs
+
+wide-requires-3 : tie.Need-wide-requires-3
+wide-requires-3 c κs = search needs
+
+shared-slice-read-wide-4 : tie.Need-shared-slice-read-wide-4
+shared-slice-read-wide-4 c = search needs
+
+wide-requires-4 : tie.Need-wide-requires-4
+wide-requires-4 c κs = search needs
+
+shared-slice-read-wide-5 : tie.Need-shared-slice-read-wide-5
+shared-slice-read-wide-5 c = search needs
+
+wide-requires-5 : tie.Need-wide-requires-5
+wide-requires-5 c κs = search needs
+
+shared-slice-read-wide-6 : tie.Need-shared-slice-read-wide-6
+shared-slice-read-wide-6 c = search needs
+
+wide-requires-6 : tie.Need-wide-requires-6
+wide-requires-6 c κs = search needs
+
+shared-slice-read-wide-7 : tie.Need-shared-slice-read-wide-7
+shared-slice-read-wide-7 c = search needs
+
+wide-requires-7 : tie.Need-wide-requires-7
+wide-requires-7 c κs = search needs
+
+num-at-requires-4 : tie.Need-num-at-requires-4
+num-at-requires-4 c κs = search needs
+
+shared-slice-read-wide-8 : tie.Need-shared-slice-read-wide-8
+shared-slice-read-wide-8 c = search needs
+
+wide-requires-8 : tie.Need-wide-requires-8
+wide-requires-8 c κs = search needs
+
+returns : tie.Need-returns
+unfolding row
+returns c = (
+  λ i. record {
+    identifier = (c .before .before .before .before .before .before .before .before .before .before .before .before .before .before .before .before .before .before .before .num-at .ensures .0) i;
+    parent = (c .before .before .before .before .before .before .before .before .before .before .before .before .before .before .before .before .before .wide .ensures .0) i;
+    kind = (c .before .before .before .before .before .before .before .before .before .before .before .before .before .before .before .wide2 .ensures .0) i;
+    start = (c .before .before .before .before .before .before .before .before .before .before .before .before .before .before .num-at2 .ensures .0) i;
+    size = (c .before .before .before .before .before .before .before .before .before .before .before .before .before .num-at3 .ensures .0) i;
+    «record» = (c .before .before .before .before .before .before .before .before .before .before .before .wide3 .ensures .0) i;
+    newest = (c .before .before .before .before .before .before .before .before .before .wide4 .ensures .0) i;
+    state = (c .before .before .before .before .before .before .before .wide5 .ensures .0) i;
+    eleven = (c .before .before .before .before .before .wide6 .ensures .0) i;
+    never = (c .before .before .before .wide7 .ensures .0) i;
+    thirteen = (c .before .before .num-at4 .ensures .0) i;
+    fifteen = (c .wide8 .ensures .0) i;
+  },
+  record {
+    identifier = c .before .before .before .before .before .before .before .before .before .before .before .before .before .before .before .before .before .before .before .num-at .ensures .1;
+    parent = c .before .before .before .before .before .before .before .before .before .before .before .before .before .before .before .before .before .wide .ensures .1;
+    kind = c .before .before .before .before .before .before .before .before .before .before .before .before .before .before .before .wide2 .ensures .1;
+    start = c .before .before .before .before .before .before .before .before .before .before .before .before .before .before .num-at2 .ensures .1;
+    size = c .before .before .before .before .before .before .before .before .before .before .before .before .before .num-at3 .ensures .1;
+    «record» = c .before .before .before .before .before .before .before .before .before .before .before .wide3 .ensures .1;
+    newest = c .before .before .before .before .before .before .before .before .before .wide4 .ensures .1;
+    state = c .before .before .before .before .before .before .before .wide5 .ensures .1;
+    eleven = c .before .before .before .before .before .wide6 .ensures .1;
+    never = c .before .before .before .wide7 .ensures .1;
+    thirteen = c .before .before .num-at4 .ensures .1;
+    fifteen = c .wide8 .ensures .1;
+  },
+)
+
+pub row-of-spec : {M : Type 1} → statement M
+row-of-spec =
+    tie.close
+    (tie.spec
+    num-at-requires
+    shared-slice-read-wide
+    wide-requires
+    shared-slice-read-wide-2
+    wide-requires-2
+    num-at-requires-2
+    num-at-requires-3
+    shared-slice-read-wide-3
+    wide-requires-3
+    shared-slice-read-wide-4
+    wide-requires-4
+    shared-slice-read-wide-5
+    wide-requires-5
+    shared-slice-read-wide-6
+    wide-requires-6
+    shared-slice-read-wide-7
+    wide-requires-7
+    num-at-requires-4
+    shared-slice-read-wide-8
+    wide-requires-8
+    returns)

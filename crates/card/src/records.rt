@@ -1,0 +1,43 @@
+// The place of a record in its file.
+use crate::Row;
+ghost use mathlib.Core.Path.{_≡_};
+ghost use Prim.Native.Nat.{_+_, _*_, _≤_, _<_};
+ghost use Rattle.card.specs.Row.{Narrow};
+ghost use Rattle.card.specs.Sound.{recordCount};
+ghost use Rattle.card.specs.Records.{cyclicPlace, recordOffset, oldestPlace};
+
+// The place of record r among m, with the newest at place k.
+pub fn cyclic_place(m: usize, k: usize, r: usize) -> usize
+    requires { ⌜ (1 ≤ m) × (1 ≤ r) × (k + r < 131072) ⌝ }
+    ensures { λ p. ⌜ (p ≡ cyclicPlace m k r) × (p < m) ⌝ }
+{
+    (k + r - 1) % m
+}
+
+// How many records a file has.
+pub fn record_count(f: Row) -> usize
+    requires { ⌜ 1 ≤ f .«record» ⌝ }
+    ensures { λ n. ⌜ (n ≡ recordCount f) × (n * f .«record» ≤ f .size) ⌝ }
+{
+    let record = f.record;
+    f.size / record
+}
+
+// Where record r begins in its file.
+pub fn record_offset(f: Row, r: usize) -> usize
+    requires { ⌜ (1 ≤ f .«record») × (1 ≤ r) × (r ≤ recordCount f) × Narrow f ⌝ }
+    ensures { λ p. ⌜ (p ≡ recordOffset f r) × (p + f .«record» ≤ f .size) ⌝ }
+{
+    let record = f.record;
+    let m = record_count(f);
+    record * cyclic_place(m, f.newest, r)
+}
+
+// The place of the oldest record.
+pub fn oldest_place(f: Row) -> usize
+    requires { ⌜ (1 ≤ f .«record») × (1 ≤ recordCount f) × Narrow f ⌝ }
+    ensures { λ p. ⌜ (p ≡ oldestPlace f) × (p < recordCount f) ⌝ }
+{
+    let m = record_count(f);
+    cyclic_place(m, f.newest, m)
+}

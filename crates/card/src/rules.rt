@@ -1,0 +1,159 @@
+// The rules of single entries and of pairs, on entries that were read.
+use crate::ACTIVATED;
+use crate::ADF;
+use crate::CYCLIC;
+use crate::DEACTIVATED;
+use crate::Row;
+use crate::TRANSPARENT;
+ghost use mathlib.Core.Path.{_≡_};
+ghost use Prim.Native.Nat.{_<_};
+ghost use Rattle.card.specs.Row.{Narrow, isDirectory, isFile, canBeChild};
+ghost use Rattle.card.specs.Sound.{rootSound, placeSound, nameSound, directorySound, newestSound, stateSound, recordsSound, fileSound, zerosSound, ownSound, namedApart, lieApart, pairSound};
+
+// "Record files have record length 1 to 255 and 1 to 254 whole records"
+const LONGEST_RECORD: usize = 255;
+
+const MOST_RECORDS: usize = 254;
+
+// The kinds that are directories.
+pub fn is_directory(r: Row) -> bool
+    ensures { λ b. ⌜ b ≡ isDirectory r ⌝ }
+{
+    (1 <= r.kind) & (r.kind <= 3)
+}
+
+// The kinds that are files.
+pub fn is_file(r: Row) -> bool
+    ensures { λ b. ⌜ b ≡ isFile r ⌝ }
+{
+    (4 <= r.kind) & (r.kind <= 6)
+}
+
+// The kinds that can be a directory's child.
+pub fn can_be_child(r: Row) -> bool
+    ensures { λ b. ⌜ b ≡ canBeChild r ⌝ }
+{
+    !((r.kind == 0) | ((r.kind == 1) | (r.kind == 3)))
+}
+
+// Entry 0.
+pub fn root_sound(r: Row) -> bool
+    ensures { λ b. ⌜ b ≡ rootSound r ⌝ }
+{
+    (r.kind == 1) & ((r.identifier == 0x3F00) & (r.parent == 0))
+}
+
+// An entry's kind and parent, with its number and the parent's row.
+pub fn place_sound(e: usize, parent: Row, r: Row) -> bool
+    ensures { λ b. ⌜ b ≡ placeSound e parent r ⌝ }
+{
+    (2 <= r.kind) & ((r.kind <= 6) & ((r.parent < e) & is_directory(parent)))
+}
+
+// An entry's identifier.
+pub fn name_sound(r: Row) -> bool
+    ensures { λ b. ⌜ b ≡ nameSound r ⌝ }
+{
+    if r.kind == ADF {
+        return (r.parent == 0) & (r.identifier == 0x7FFF);
+    }
+    !((r.identifier == 0x3F00) | ((r.identifier == 0x3FFF) | (r.identifier == 0x7FFF)))
+}
+
+// What a directory holds.
+fn directory_sound(r: Row) -> bool
+    ensures { λ b. ⌜ b ≡ directorySound r ⌝ }
+{
+    (r.start == 0)
+        & ((r.size == 0)
+            & ((r.record == 0) & ((r.newest == 0) & ((r.never == 0) & (r.state == ACTIVATED)))))
+}
+
+// A value of byte 9.
+pub fn newest_sound(r: Row, place: usize) -> bool
+    ensures { λ b. ⌜ b ≡ newestSound r place ⌝ }
+{
+    let record = r.record;
+    if r.kind == CYCLIC {
+        if record == 0 {
+            return false;
+        }
+        return place < r.size / record;
+    }
+    place == 0
+}
+
+// A value of byte 10.
+pub fn state_sound(state: usize) -> bool
+    ensures { λ b. ⌜ b ≡ stateSound state ⌝ }
+{
+    (state == DEACTIVATED) | (state == ACTIVATED)
+}
+
+// A file's record length and record count.
+fn records_sound(r: Row) -> bool
+    ensures { λ b. ⌜ b ≡ recordsSound r ⌝ }
+{
+    let record = r.record;
+    if r.kind == TRANSPARENT {
+        return record == 0;
+    }
+    if record == 0 {
+        return false;
+    }
+    let count = r.size / record;
+    (record <= LONGEST_RECORD) & ((r.size % record == 0) & ((1 <= count) & (count <= MOST_RECORDS)))
+}
+
+// What a file holds, over a file memory of so many bytes.
+fn file_sound(files: usize, r: Row) -> bool
+    requires { ⌜ Narrow r ⌝ }
+    ensures { λ b. ⌜ b ≡ fileSound files r ⌝ }
+{
+    (1 <= r.size)
+        & ((r.start + r.size <= files)
+            & (records_sound(r)
+                & (newest_sound(r, r.newest) & (state_sound(r.state) & (r.never < 32)))))
+}
+
+// Bytes 11 and 13-15.
+fn zeros_sound(r: Row) -> bool
+    ensures { λ b. ⌜ b ≡ zerosSound r ⌝ }
+{
+    (r.eleven == 0) & ((r.thirteen == 0) & (r.fifteen == 0))
+}
+
+// An entry by itself.
+pub fn own_sound(files: usize, r: Row) -> bool
+    requires { ⌜ Narrow r ⌝ }
+    ensures { λ b. ⌜ b ≡ ownSound files r ⌝ }
+{
+    if is_directory(r) {
+        return zeros_sound(r) & directory_sound(r);
+    }
+    zeros_sound(r) & file_sound(files, r)
+}
+
+// Two entries have different names where they have one parent.
+fn named_apart(a: Row, b: Row) -> bool
+    ensures { λ t. ⌜ t ≡ namedApart a b ⌝ }
+{
+    !((can_be_child(a) & can_be_child(b))
+        & ((a.parent == b.parent) & (a.identifier == b.identifier)))
+}
+
+// Two entries do not overlap.
+fn lie_apart(a: Row, b: Row) -> bool
+    requires { ⌜ Narrow a × Narrow b ⌝ }
+    ensures { λ t. ⌜ t ≡ lieApart a b ⌝ }
+{
+    (a.start + a.size <= b.start) | (b.start + b.size <= a.start)
+}
+
+// Two entries.
+pub fn pair_sound(a: Row, b: Row) -> bool
+    requires { ⌜ Narrow a × Narrow b ⌝ }
+    ensures { λ t. ⌜ t ≡ pairSound a b ⌝ }
+{
+    named_apart(a, b) & lie_apart(a, b)
+}

@@ -1,0 +1,34 @@
+-- What the two calls without a script give, case by case. Assumes nothing.
+use Prim.Native.Nat.{ℕ}
+use mathlib.Core.Path.{_≡_, refl}
+use mathlib.Core.Bool.{true, false}
+use mathlib.Core.List.{[]}
+use borrow.Author.Tests.{eq-eqb, ne-eqb}
+use Rattle.octets.specs.Choice.{pick}
+use Rattle.card.specs.Row.{Card}
+use Rattle.journal.specs.Entries.{scriptsOnTrial}
+use Rattle.journal.specs.Sound.{soundCard}
+use Rattle.journal.specs.Changes.{takenBack, confirmed}
+use Rattle.engine.specs.Numbers.{firstGiven, notSound, takeBackRefusals, confirmRefusals}
+use Rattle.engine.specs.Calls.{Result, gives, numbered, unlessRefused, takeBack, confirm}
+
+module _ (c : Card) where
+  pub back-unsound : soundCard c ≡ false → takeBack c ≡ gives (numbered 1) c []
+  unfolding takeBack unlessRefused firstGiven takeBackRefusals notSound pick
+  back-unsound bad = rw bad
+
+  pub back-none : soundCard c ≡ true → scriptsOnTrial (c .journal) ≡ 0 → takeBack c ≡ gives (numbered 7) c []
+  unfolding takeBack unlessRefused firstGiven takeBackRefusals notSound pick
+  back-none sound none = rw (sound, eq-eqb (scriptsOnTrial (c .journal)) 0 none)
+
+  pub back-done : soundCard c ≡ true → (scriptsOnTrial (c .journal) ≡ 0 → ⊥) → takeBack c ≡ gives (numbered 0) (takenBack c) []
+  unfolding takeBack unlessRefused firstGiven takeBackRefusals notSound pick
+  back-done sound some = rw (sound, ne-eqb (scriptsOnTrial (c .journal)) 0 some)
+
+  pub confirm-unsound : soundCard c ≡ false → confirm c ≡ gives (numbered 1) c []
+  unfolding confirm unlessRefused firstGiven confirmRefusals notSound pick
+  confirm-unsound bad = rw bad
+
+  pub confirm-done : soundCard c ≡ true → confirm c ≡ gives (numbered 0) (confirmed c) []
+  unfolding confirm unlessRefused firstGiven confirmRefusals notSound pick
+  confirm-done sound = rw sound

@@ -1,0 +1,93 @@
+-- Demand 3: "Any history of scripts, take-backs and confirmations: strike out each script that was taken back with its take-back, and
+-- each run refused with number 5. What demand 2's rules give for the remaining calls, from the same start, is what the card gave: the
+-- same answers, and at the end the same table, files and journal, byte by byte."
+use Prim.Native.Nat.{ℕ}
+use mathlib.Core.Bool.{Bool, true, false, _||_}
+use mathlib.Core.Path.{_≡_}
+use mathlib.Core.List.{List, [], _∷_, map, reverse}
+use lib.Dec.{eqb}
+use Rattle.octets.specs.Choice.{pick}
+use Rattle.card.specs.Row.{Card}
+use Rattle.engine.specs.declared.Answer.{Answer}
+use Rattle.engine.specs.Numbers.{Arguments}
+use Rattle.engine.specs.Calls.{Result, run, takeBack, confirm}
+
+-- a call: a run with all its arguments, its response memory among them, a take-back, or a confirmation
+pub data Call : Type 0 where
+  running : Arguments → Call
+  takingBack confirming : Call
+
+-- what a call gives on a card
+unfoldable pub given : Call → Card → Result
+given (running a) c = run a c
+given takingBack c = takeBack c
+given confirming c = confirm c
+
+-- what a caller gets to see of a call: its answer and the response memory
+pub record Seen : Type 0 where
+  pub answer : Answer
+  pub response : List ℕ
+
+unfoldable pub seen : Result → Seen
+seen r = record { answer = r .answer; response = r .response }
+
+-- what the calls of a history give, one after the other, from a card on; and the card at the end
+unfoldable pub gave : Card → List Call → List Seen
+gave c [] = []
+gave c (h ∷ hs) = seen (given h c) ∷ gave (given h c .card) hs
+
+unfoldable pub left : Card → List Call → Card
+left c [] = c
+left c (h ∷ hs) = left (given h c .card) hs
+
+-- a call that remains so far: what it gave, and whether it is a script on trial
+pub record Past : Type 0 where
+  pub call : Call
+  pub gave : Seen
+  pub onTrial : Bool
+
+-- whether some call of a list is a script on trial
+unfoldable pub anyOnTrial : List Past → Bool
+anyOnTrial [] = false
+anyOnTrial (p ∷ ps) = p .onTrial || anyOnTrial ps
+
+-- newest first: the newest script on trial is struck out
+unfoldable pub struck : List Past → List Past
+struck [] = []
+struck (p ∷ ps) = pick (p .onTrial) ps (p ∷ struck ps)
+
+-- a confirmation ends all trials
+unfoldable pub settled : Past → Past
+settled p = record { call = p .call; gave = p .gave; onTrial = false }
+
+unfoldable pub past : Call → Result → Bool → Past
+past h r onTrial = record { call = h; gave = seen r; onTrial = onTrial }
+
+-- what remains after one call more, newest first: an accepted run goes on trial, a run refused with 5 is struck out; an accepted take-back
+-- is struck out with the newest script on trial, and stays where none of this history is on trial; an accepted confirmation ends all trials
+unfoldable pub afterRun : Past → ℕ → List Past → List Past
+afterRun p number ps = pick (eqb number 5) ps (p ∷ ps)
+
+unfoldable pub afterTakeBack : Past → ℕ → List Past → List Past
+afterTakeBack p number ps = pick (eqb number 0) (pick (anyOnTrial ps) (struck ps) (p ∷ ps)) (p ∷ ps)
+
+unfoldable pub afterConfirm : Past → ℕ → List Past → List Past
+afterConfirm p number ps = pick (eqb number 0) (p ∷ map settled ps) (p ∷ ps)
+
+unfoldable pub afterCall : Call → Result → List Past → List Past
+afterCall (running a) r ps = afterRun (past (running a) r (eqb (r .answer .number) 0)) (r .answer .number) ps
+afterCall takingBack r ps = afterTakeBack (past takingBack r false) (r .answer .number) ps
+afterCall confirming r ps = afterConfirm (past confirming r false) (r .answer .number) ps
+
+unfoldable pub remainsFrom : Card → List Past → List Call → List Past
+remainsFrom c ps [] = ps
+remainsFrom c ps (h ∷ hs) = remainsFrom (given h c .card) (afterCall h (given h c) ps) hs
+
+-- the calls of a history that remain, with what they gave, oldest first
+unfoldable pub remains : Card → List Call → List Past
+remains c hs = reverse (remainsFrom c [] hs)
+
+-- the remaining calls alone, from the same start, give the same answers, and leave the same card
+pub record Demand3 (c : Card) (hs : List Call) : Type 0 where
+  pub answers : gave c (map (λ (p : Past). p .call) (remains c hs)) ≡ map (λ (p : Past). p .gave) (remains c hs)
+  pub card : left c (map (λ (p : Past). p .call) (remains c hs)) ≡ left c hs

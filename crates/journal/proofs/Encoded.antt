@@ -1,0 +1,70 @@
+-- A sound journal is its entries' bytes between a head and zeros. Assumes nothing.
+use mathlib.Core.Path.{_≡_, refl, sym, ap, _∙_}
+use mathlib.Core.Bool.{true, false, false≢true}
+use mathlib.Core.List.{List, [], _∷_, _++_}
+use Prim.Native.Nat.{ℕ, _+_, _-_, _≤_}
+use native.Mathlib.Omega.{arith}
+use lib.ListN.{length, take, drop, length-drop, take-append-drop}
+use lib.Seq.{take-add, drop-drop}
+use Rattle.octets.specs.Choice.{pick}
+use Rattle.octets.specs.Bytes.{part, zeros}
+use Rattle.octets.proofs.Picks.{and-left, and-right}
+use Rattle.octets.proofs.Same.{zero-true}
+use Rattle.journal.specs.Entries.{Entry, headSize, usedBytes, scriptsOnTrial, room, entryBytes, encode, tailAt, entryAt, noEntry, entriesOf}
+use Rattle.journal.specs.Sound.{formSound, entrySound, allSound, soundJournal}
+use Rattle.journal.specs.Changes.{bytesTaken, cutBack}
+use Rattle.journal.proofs.Entries.{Reading, none, stop, more, before, read-all}
+use Rattle.journal.proofs.Tails.{begins, old-length, entry-bytes}
+use Rattle.journal.proofs.Parts.{parts}
+
+-- the bytes of entries, newest first, as they stand: the newest last
+unfoldable pub encodeAll : List Entry → List ℕ
+encodeAll [] = []
+encodeAll (e ∷ es) = encodeAll es ++ encode e
+
+no-entry : (t : List ℕ) (files : ℕ) → entrySound t files noEntry ≡ false
+unfolding entrySound formSound noEntry pick
+no-entry t files = refl
+
+module _ (t : List ℕ) (files : ℕ) (j : List ℕ) where
+  pub taken-all : {u : ℕ} {es : List Entry} → Reading j u es → headSize + u ≤ length j → allSound t files es ≡ true → bytesTaken es ≡ u
+  unfolding bytesTaken allSound
+  taken-all none fits h = refl
+  taken-all (stop p r) fits h = absurd (false≢true (sym (no-entry t files) ∙ and-left _ _ h))
+  taken-all (more {u} {es} r rest) fits h =
+      let b = begins j u r in
+      let l = old-length j u r fits in
+      let x = taken-all rest (omega arith) (and-right (entrySound t files (entryAt j u)) _ h) in
+      omega arith
+
+  pub encoded : {u : ℕ} {es : List Entry} → Reading j u es → headSize + u ≤ length j → allSound t files es ≡ true → part j headSize u ≡ encodeAll es
+  unfolding encodeAll allSound
+  encoded none fits h = refl
+  encoded (stop p r) fits h = absurd (false≢true (sym (no-entry t files) ∙ and-left _ _ h))
+  encoded (more {u} {es} r rest) fits h =
+      let b = begins j u r in
+      let n = entryBytes (tailAt j u .count) in
+      let x = encoded rest (omega arith) (and-right (entrySound t files (entryAt j u)) _ h) in
+      ap (part j headSize) (sym b) ∙ take-add (before j u) n (drop headSize j)
+      ∙ (λ i. x i ++ take n (drop-drop (before j u) headSize j i))
+      ∙ ap (λ (bs : List ℕ). encodeAll es ++ bs) (entry-bytes j u r fits)
+
+module _ (t files j : List ℕ) (sound : soundJournal t files j ≡ true) where
+  pub all-fits : headSize + usedBytes j ≤ length j
+  unfolding room
+  all-fits = let p = parts t files j sound in omega arith
+
+  pub sound-encoded : part j headSize (usedBytes j) ≡ encodeAll (entriesOf j)
+  sound-encoded = encoded t (length files) j (read-all j) all-fits (parts t files j sound .sound)
+
+  pub sound-taken : bytesTaken (entriesOf j) ≡ usedBytes j
+  sound-taken = taken-all t (length files) j (read-all j) all-fits (parts t files j sound .sound)
+
+  pub sound-cut : cutBack j (usedBytes j) (scriptsOnTrial j) ≡ j
+  unfolding cutBack
+  sound-cut =
+      let p = parts t files j sound in
+      let u = usedBytes j in
+      let z : drop u (drop headSize j) ≡ zeros (length j - (headSize + u)) =
+      drop-drop u headSize j ∙ zero-true (drop (headSize + u) j) (p .rest) ∙ ap zeros (length-drop (headSize + u) j) in
+      sym (λ i. p .begins i ++ (take u (drop headSize j) ++ z i)) ∙ rw (take-append-drop u (drop headSize j), take-append-drop headSize j)

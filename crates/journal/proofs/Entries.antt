@@ -1,0 +1,121 @@
+-- Reading a journal's entries back: step by step, with no more steps than bytes, and from no other bytes than theirs. Assumes nothing.
+use mathlib.Core.Path.{_≡_, refl, sym, ap, _∙_}
+use mathlib.Core.Bool.{Bool, true, false, false≢true}
+use mathlib.Core.List.{List, [], _∷_}
+use mathlib.Core.Logic.{_⊎_, inl, inr, ⊎-elim}
+use Prim.Native.Nat.{ℕ, zero, suc, _+_, _-_, _≤_, _<_}
+use native.Mathlib.Nat.{eq-or-lt-of-le, le-refl}
+use native.Mathlib.Omega.{arith}
+use borrow.Author.Tests.{leb-true, ne-eqb}
+use Rattle.octets.specs.Bytes.{part}
+use Rattle.octets.proofs.Picks.{and-left, refuted}
+use Rattle.octets.proofs.Writes.{part-part}
+use Rattle.journal.specs.Entries.{Entry, headSize, usedBytes, tailSize, entryBytes, tailBytes, tailIn, tailAt, formed, oldPlace, entryAt, readable, noEntry, entriesBack, entriesOf}
+
+-- a test holds or it does not
+pub either : (b : Bool) → (b ≡ true) ⊎ (b ≡ false)
+either true = inl refl
+either false = inr refl
+
+-- where the entry begins that ends where the first u bytes of entries end
+abbrev pub before : List ℕ → ℕ → ℕ
+before j u = u - entryBytes (tailAt j u .count)
+
+-- the entries that the first u bytes of entries of a journal hold, newest first
+pub data Reading (j : List ℕ) : ℕ → List Entry → Type 0 where
+  none : Reading j 0 []
+  stop : {u : ℕ} → 0 < u → readable j u ≡ false → Reading j u (noEntry ∷ [])
+  more : {u : ℕ} {es : List Entry} → readable j u ≡ true → Reading j (before j u) es → Reading j u (entryAt j u ∷ es)
+
+-- one step back
+back-none : (n : ℕ) (j : List ℕ) → entriesBack n j 0 ≡ []
+unfolding entriesBack
+back-none zero j = refl
+back-none (suc n) j = refl
+
+module _ (n : ℕ) (j : List ℕ) (u : ℕ) (some : 0 < u) where
+  back-more : readable j u ≡ true → entriesBack (suc n) j u ≡ entryAt j u ∷ entriesBack n j (before j u)
+  unfolding entriesBack
+  back-more h = rw (entriesBack, ne-eqb u 0 (λ e. omega arith), h)
+
+  back-stop : readable j u ≡ false → entriesBack (suc n) j u ≡ noEntry ∷ []
+  unfolding entriesBack
+  back-stop h = rw (entriesBack, ne-eqb u 0 (λ e. omega arith), h)
+
+-- a whole entry is no longer than the bytes
+pub count-fits : (j : List ℕ) (u : ℕ) → readable j u ≡ true → entryBytes (tailAt j u .count) ≤ u
+unfolding readable
+count-fits j u h = leb-true _ _ (and-left _ (formed (tailBytes j u)) h)
+
+-- what is read back is what the bytes hold, and nothing else is
+pub read : (n : ℕ) (j : List ℕ) (u : ℕ) → u ≤ n → Reading j u (entriesBack n j u)
+read zero j u h = let e : u ≡ 0 = omega arith in rw (e, back-none 0 j) none
+read (suc n) j u h =
+    let z : 0 ≤ u = omega arith in
+    ⊎-elim
+    (λ e. rw (← e, back-none (suc n) j) none)
+    (λ p. ⊎-elim
+    (λ r. rw (back-more n j u p r) (more r (read n j (before j u) (omega arith))))
+    (λ r. rw (back-stop n j u p r) (stop p r))
+    (either (readable j u)))
+    (eq-or-lt-of-le z)
+
+pub read-only : {j : List ℕ} {u : ℕ} {es : List Entry} (n : ℕ) → u ≤ n → Reading j u es → entriesBack n j u ≡ es
+read-only {j} n h none = back-none n j
+read-only zero h (stop p r) = absurd (omega arith)
+read-only {j} (suc n) h (stop {u} p r) = back-stop n j u p r
+read-only {j} zero h (more {u} r rest) = absurd (omega (arith, count-fits j u r))
+read-only {j} (suc n) h (more {u} r rest) =
+    let c = count-fits j u r in
+    back-more n j u (omega arith) r ∙ ap (λ (es : List Entry). entryAt j u ∷ es) (read-only n (omega arith) rest)
+
+pub read-all : (j : List ℕ) → Reading j (usedBytes j) (entriesOf j)
+unfolding entriesOf
+read-all j = read (usedBytes j) j (usedBytes j) (le-refl (usedBytes j))
+
+-- more steps than bytes change nothing
+pub fuel : (n : ℕ) (j : List ℕ) (u : ℕ) → u ≤ n → entriesBack n j u ≡ entriesBack u j u
+fuel n j u h = read-only n h (read u j u (le-refl u))
+
+-- the entries depend on no other bytes
+module _ (j k : List ℕ) (u : ℕ) (alike : part j headSize u ≡ part k headSize u) where
+  pub part-same : (p n : ℕ) → p + n ≤ u → part j (headSize + p) n ≡ part k (headSize + p) n
+  part-same p n h = sym (part-part j headSize u p n h) ∙ ap (λ (m : List ℕ). part m p n) alike ∙ part-part k headSize u p n h
+
+  module _ (r : readable j u ≡ true) where
+    tail-same : tailBytes j u ≡ tailBytes k u
+    unfolding tailBytes
+    tail-same =
+        let c = count-fits j u r in
+        let q : headSize + u - tailSize ≡ headSize + (u - tailSize) = omega arith in
+        rw q (part-same (u - tailSize) tailSize (omega arith))
+
+    same-tail : tailAt j u ≡ tailAt k u
+    unfolding tailAt
+    same-tail = ap tailIn tail-same
+
+    same-readable : readable k u ≡ true
+    unfolding readable tailAt
+    same-readable = rw tail-same at r
+
+    same-entry : entryAt j u ≡ entryAt k u
+    unfolding entryAt oldPlace
+    same-entry =
+        let c = count-fits j u r in
+        let n = tailAt j u .count in
+        let q : headSize + u - entryBytes n ≡ headSize + (u - entryBytes n) = omega arith in
+        let o : part j (headSize + u - entryBytes n) n ≡ part k (headSize + u - entryBytes n) n = rw q (part-same (u - entryBytes n) n (omega arith)) in
+        rw (o, same-tail)
+
+    part-before-same : part j headSize (before j u) ≡ part k headSize (before j u)
+    part-before-same = part-same 0 (before j u) (omega arith)
+
+pub same-reading : (j k : List ℕ) {u : ℕ} {es : List Entry} → part j headSize u ≡ part k headSize u → Reading j u es → Reading k u es
+same-reading j k e none = none
+same-reading j k e (stop {u} p r) = stop p (refuted (readable k u) (λ t. false≢true (sym r ∙ same-readable k j u (sym e) t)))
+same-reading j k e (more {u} {es} r rest) =
+    rw (same-entry j k u e r)
+    (more {es = es} (same-readable j k u e r) (rw (same-tail j k u e r) at (same-reading j k (part-before-same j k u e r) rest)))
+
+pub same-entries : (n : ℕ) (j k : List ℕ) (u : ℕ) → u ≤ n → part j headSize u ≡ part k headSize u → entriesBack n j u ≡ entriesBack n k u
+same-entries n j k u h e = sym (read-only n h (same-reading j k e (read n j u h)))

@@ -1,0 +1,15 @@
+pub mod Steps
+pub mod Entries
+pub mod Tails
+pub mod Memories
+pub mod Pushed
+pub mod Parts
+pub mod Encoded
+pub mod Behind
+pub mod Written
+pub mod Undone
+pub mod Cut
+pub mod Table
+pub mod Forms
+pub mod Changed
+pub mod Kept

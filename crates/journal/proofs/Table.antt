@@ -1,0 +1,111 @@
+-- A table byte that gets a value sound there: the table stays sound, and what an entry may be stays the same. Assumes nothing.
+use mathlib.Core.Path.{_≡_, refl, sym, ap, _∙_}
+use mathlib.Core.Bool.{true, _&&_}
+use mathlib.Core.List.{List, [], _∷_}
+use mathlib.Core.Logic.{⊎-elim}
+use Prim.Native.Nat.{ℕ, _+_, _*_, _/_, _%_, _≤_, _<_}
+use native.Mathlib.Omega.{arith}
+use lib.Dec.{ltb, eqb}
+use lib.ListN.{length}
+use borrow.Author.Tests.{ltb-true, eqb-true}
+use Rattle.octets.specs.Choice.{pick}
+use Rattle.octets.specs.Bytes.{byte, overwrite}
+use Rattle.octets.proofs.Picks.{pick-true, pick-false, and-left, and-right, and-both}
+use Rattle.octets.proofs.Numbers.{byte-part}
+use Rattle.card.specs.declared.Row.{Row}
+use Rattle.card.specs.Row.{entries, entry, row, rowOf, isCyclic, isFile}
+use Rattle.card.specs.Sound.{newestSound, stateSound, soundTable}
+use Rattle.card.proofs.Promises.{cyclic-records, records-file, file-state, file-newest, entry-own}
+use Rattle.card.proofs.Kept.{withBytes, changed-entries, test-kept, newest-kept, state-kept}
+use Rattle.journal.specs.Sound.{tableByteSound, tablePlaceSound, formSound}
+use Rattle.journal.proofs.Entries.{either}
+
+-- what a table byte may be: the state of a file, or the newest record of a cyclic file
+data SoundByte (r : Row) (at v : ℕ) : Type 0 where
+  asState : at ≡ 10 → isFile r ≡ true → stateSound v ≡ true → SoundByte r at v
+  asNewest : at ≡ 9 → isFile r ≡ true → isCyclic r ≡ true → newestSound r v ≡ true → SoundByte r at v
+
+module _ (r : Row) (at v : ℕ) where
+  told : tableByteSound r at v ≡ true → SoundByte r at v
+  unfolding tableByteSound
+  told h =
+      ⊎-elim
+      (λ e. let k = pick-true (eqb at 10) (isFile r && stateSound v) (eqb at 9 && (isCyclic r && newestSound r v)) e in
+      asState (eqb-true at 10 e) (and-left _ _ (sym k ∙ h)) (and-right (isFile r) _ (sym k ∙ h)))
+      (λ e. let k = sym (pick-false (eqb at 10) (isFile r && stateSound v) (eqb at 9 && (isCyclic r && newestSound r v)) e) ∙ h in
+      let m = and-right (eqb at 9) _ k in
+      asNewest (eqb-true at 9 (and-left _ _ k)) (records-file r (cyclic-records r (and-left _ _ m))) (and-left _ _ m) (and-right (isCyclic r) _ m))
+      (either (eqb at 10))
+
+  state-told : at ≡ 10 → isFile r ≡ true → stateSound v ≡ true → tableByteSound r at v ≡ true
+  unfolding tableByteSound pick
+  state-told e f g = rw (e, f, g)
+
+  newest-told : at ≡ 9 → isCyclic r ≡ true → newestSound r v ≡ true → tableByteSound r at v ≡ true
+  unfolding tableByteSound pick
+  newest-told e f g = rw (e, f, g)
+
+  blind : (n s : ℕ) → tableByteSound (withBytes r n s) at v ≡ tableByteSound r at v
+  unfolding tableByteSound newestSound
+  blind n s = refl
+
+-- a place of the table, and a value that is sound there
+module _ (t : List ℕ) (place v : ℕ) (ok : tablePlaceSound t place v ≡ true) where
+  inside : place / 16 < entries t
+  unfolding tablePlaceSound
+  inside = ltb-true (place / 16) (entries t) (and-left _ _ ok)
+
+  byte-told : SoundByte (rowOf t (place / 16)) (place % 16) v
+  unfolding tablePlaceSound
+  byte-told = told (rowOf t (place / 16)) (place % 16) v (and-right (ltb (place / 16) (entries t)) _ ok)
+
+  bounds : (9 ≤ place % 16) × (place % 16 ≤ 10)
+  bounds = elim byte-told [ asState e f s ↦ omega arith | asNewest e f c s ↦ omega arith ]
+
+  pub place-fits : place < length t
+  place-fits = let h = inside in omega arith
+
+  here : (k : ℕ) → place % 16 ≡ k → overwrite t (16 * (place / 16) + k) (v ∷ []) ≡ overwrite t place (v ∷ [])
+  here k e = let q : 16 * (place / 16) + k ≡ place = omega arith in rw q
+
+  -- sound places are the same
+  place-kept : (p old : ℕ) → tablePlaceSound (overwrite t place (v ∷ [])) p old ≡ tablePlaceSound t p old
+  unfolding tablePlaceSound
+  place-kept p old =
+      let e = place / 16 in
+      let k = place % 16 in
+      ap (λ (m : List ℕ). tablePlaceSound m p old) (sym (here k refl))
+      ∙ λ i. ltb (p / 16) (changed-entries t e k v inside (omega (arith, bounds)) i) && test-kept t e k v inside (bounds .0) (bounds .1) (λ (r : Row). tableByteSound r (p % 16) old) (λ r. blind r (p % 16) old) (p / 16) i
+
+  pub form-kept : (files kind p n old : ℕ) → formSound (overwrite t place (v ∷ [])) files kind p n old ≡ formSound t files kind p n old
+  unfolding formSound
+  form-kept files kind p n old = rw (place-kept p old)
+
+  module _ (files : List ℕ) (sound : soundTable t files ≡ true) where
+    pub table-kept : soundTable (overwrite t place (v ∷ [])) files ≡ true
+    table-kept =
+        elim byte-told [
+          | asState e f s ↦ rw (here 10 e) at (state-kept t (place / 16) v inside files sound f s)
+          | asNewest e f c s ↦ rw (here 9 e) at (newest-kept t (place / 16) v inside files sound f s)
+        ]
+
+    -- and the old value there is sound too
+    byte-there : (k : ℕ) → place % 16 ≡ k → byte (entry t (place / 16)) k ≡ byte t place
+    unfolding entry
+    byte-there k e =
+        let q : 16 * (place / 16) + k ≡ place = omega arith in
+        byte-part t (16 * (place / 16)) 16 k (omega arith) ∙ ap (byte t) q
+
+    old-byte : tableByteSound (rowOf t (place / 16)) (place % 16) (byte t place) ≡ true
+    unfolding rowOf row
+    old-byte =
+        let r = rowOf t (place / 16) in
+        let own = entry-own t files sound (place / 16) inside in
+        elim byte-told [
+          | asState e f s ↦ state-told r (place % 16) (byte t place) e f (ap (λ (b : ℕ). stateSound b) (sym (byte-there 10 e)) ∙ file-state (length files) r own f)
+          | asNewest e f c s ↦ newest-told r (place % 16) (byte t place) e c (ap (newestSound r) (sym (byte-there 9 e)) ∙ file-newest (length files) r own f)
+        ]
+
+    pub old-sound : tablePlaceSound t place (byte t place) ≡ true
+    unfolding tablePlaceSound
+    old-sound = and-both (ltb (place / 16) (entries t)) _ (and-left _ _ ok) old-byte

@@ -1,0 +1,101 @@
+-- `journal::back::restore_one` meets its contract: the lent part of the journal is the entry's old bytes, and its kind names the memory that they came from. Assumes nothing.
+use mathlib.Core.Path.{refl}
+use native.Mathlib.Omega.{arith}
+use borrow.Author.Needs.{needs}
+use Rattle.card.specs.Row.{Card, lent}
+use Rattle.journal.specs.Changes.{memoryOf, withMemory}
+use Rattle.journal.proofs.Steps.{readable-fits, from-table, from-files, fits-back, given-back}
+use Rattle.journal.proofs.back.restore_one.Statement.{statement}
+use Rattle.journal.proofs.back.restore_one.Tie as tie
+
+abbrev whole : tie.Start → Card
+whole s = lent (s .args .table .now) (s .args .files .now) (s .args .journal .now)
+
+tail-at-requires : tie.Need-tail-at-requires
+tail-at-requires c κs = let s = c .before .before .before in omega (arith, readable-fits (s .args .journal .now) (s .args .u) refl (s .pre .1))
+
+add-at : tie.Need-add-at
+add-at c = search needs
+
+add-at-2 : tie.Need-add-at-2
+add-at-2 c = search needs
+
+sub-at : tie.Need-sub-at
+sub-at c = let s = c .before .before .before .before .before in omega (arith, readable-fits (s .args .journal .now) (s .args .u) (c .before .tail-at .ensures .0) (s .pre .1))
+
+add-end : tie.Need-add-end
+add-end c = search needs
+
+sub-copy : tie.Need-sub-copy
+sub-copy c = search needs
+
+part-copy-start : tie.Need-part-copy-start
+part-copy-start c = search needs
+
+part-copy-end : tie.Need-part-copy-end
+part-copy-end c = let s = c .before .before .before .before .before .before .before .before .before in omega (arith, readable-fits (s .args .journal .now) (s .args .u) (c .before .before .before .before .before .tail-at .ensures .0) (s .pre .1))
+
+copy-requires : tie.Need-copy-requires
+unfolding memoryOf
+copy-requires c κs =
+    let s = c .before .before .before .before .before .before .before .before .before .before in
+    let e = c .before .before .before .before .before .before .tail-at .ensures .0 in
+    fits-back (s .args .journal .now) (s .args .u) e (whole s) (from-table (s .args .journal .now) (s .args .u) e (c .before .before .if1 .taken)) (s .pre .2)
+
+same-length : tie.Need-same-length
+same-length c = search needs
+
+returns : tie.Need-returns
+unfolding memoryOf withMemory
+returns c =
+    let s = c .before .before .before .before .before .before .before .before .before .before .before .before .before in
+    let e = c .before .before .before .before .before .before .before .before .before .tail-at .ensures .0 in
+    given-back (s .args .journal .now) (s .args .u) e (whole s) (from-table (s .args .journal .now) (s .args .u) e (c .before .before .before .before .before .if1 .taken)) (c .before .before .copy .ensures)
+
+sub-copy-2 : tie.Need-sub-copy-2
+sub-copy-2 c = search needs
+
+part-copy-start-2 : tie.Need-part-copy-start-2
+part-copy-start-2 c = search needs
+
+part-copy-end-2 : tie.Need-part-copy-end-2
+part-copy-end-2 c = let s = c .before .before .before .before .before .before .before .before .before in omega (arith, readable-fits (s .args .journal .now) (s .args .u) (c .before .before .before .before .before .tail-at .ensures .0) (s .pre .1))
+
+copy-requires-2 : tie.Need-copy-requires-2
+unfolding memoryOf
+copy-requires-2 c κs =
+    let s = c .before .before .before .before .before .before .before .before .before .before in
+    let e = c .before .before .before .before .before .before .tail-at .ensures .0 in
+    fits-back (s .args .journal .now) (s .args .u) e (whole s) (from-files (s .args .journal .now) (s .args .u) e (c .before .before .if1 .left)) (s .pre .2)
+
+same-length-2 : tie.Need-same-length-2
+same-length-2 c = search needs
+
+returns-2 : tie.Need-returns-2
+unfolding memoryOf withMemory
+returns-2 c =
+    let s = c .before .before .before .before .before .before .before .before .before .before .before .before .before in
+    let e = c .before .before .before .before .before .before .before .before .before .tail-at .ensures .0 in
+    given-back (s .args .journal .now) (s .args .u) e (whole s) (from-files (s .args .journal .now) (s .args .u) e (c .before .before .before .before .before .if1 .left)) (c .before .before .copy2 .ensures)
+
+pub restore-one-spec : {M : Type 1} → statement M
+restore-one-spec =
+    tie.close
+    (tie.spec
+    tail-at-requires
+    add-at
+    add-at-2
+    sub-at
+    add-end
+    sub-copy
+    part-copy-start
+    part-copy-end
+    copy-requires
+    same-length
+    returns
+    sub-copy-2
+    part-copy-start-2
+    part-copy-end-2
+    copy-requires-2
+    same-length-2
+    returns-2)

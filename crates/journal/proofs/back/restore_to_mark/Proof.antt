@@ -1,0 +1,71 @@
+-- `journal::back::restore_to_mark` meets its contract. The loop's invariant: what is left to give back from here is the whole of it. The measure is what is left of the entries' bytes. Assumes nothing.
+use native.Mathlib.Omega.{arith}
+use borrow.Author.Needs.{needs}
+use Rattle.journal.proofs.Steps.{readable-fits, GoesBack, back-starts, back-readable, back-long, back-inside, mark-card, mark-bytes, back-goes-on}
+use Rattle.journal.proofs.back.restore_to_mark.Statement.{statement}
+use Rattle.journal.proofs.back.restore_to_mark.Tie as tie
+
+abbrev Inv-loop : tie.InvT-loop
+Inv-loop table₀ files₀ journal used u₀ table files u = GoesBack table₀ files₀ journal used table files u
+
+abbrev μ-loop : tie.MeasureT-loop
+μ-loop table₀ files₀ journal used u₀ table files u = u
+
+loop-holds : tie.Need-loop-holds Inv-loop μ-loop
+loop-holds c = let s = c .before .before .before in back-starts (s .args .table .now) (s .args .files .now) (s .args .journal .now) (s .args .used) (s .pre .1) (s .pre .2)
+
+tail-at-requires : tie.Need-tail-at-requires Inv-loop μ-loop
+tail-at-requires c κs = let s = c .before .before .before .before in omega (arith, back-long (c .loop .inv) (s .pre .0))
+
+sub-result : tie.Need-sub-result Inv-loop μ-loop
+sub-result c = let s = c .before .before .before .before .before .before .before in back-long (c .before .before .before .loop .inv) (s .pre .0)
+
+same-length : tie.Need-same-length Inv-loop μ-loop
+same-length c = c .before .before .before .loop .inv .same-table
+
+same-length-2 : tie.Need-same-length-2 Inv-loop μ-loop
+same-length-2 c = c .before .before .before .loop .inv .same-files
+
+returns : tie.Need-returns Inv-loop μ-loop
+returns c =
+    let s = c .before .before .before .before .before .before .before in
+    let g = c .before .before .before .loop .inv in
+    let k = rw (c .before .before .tail-at .ensures .0) at (c .if1 .taken) in
+    (mark-card g (s .pre .0) k, mark-bytes g (s .pre .0) k, omega (arith, back-long g (s .pre .0)))
+
+restore-one-requires : tie.Need-restore-one-requires Inv-loop μ-loop
+restore-one-requires c κs =
+    let s = c .before .before .before .before .before .before .before .before .before in
+    let g = c .before .before .before .before .before .loop .inv in
+    (omega arith, back-readable g (s .pre .0), back-inside g (s .pre .0))
+
+add-u : tie.Need-add-u Inv-loop μ-loop
+add-u c = search needs
+
+sub-u : tie.Need-sub-u Inv-loop μ-loop
+sub-u c = readable-fits (c .before .before .before .before .before .before .before .before .before .before .before .before .before .before .before .args .journal .now) (c .before .before .before .before .before .before .before .before .before .before .before .loop .u) (c .before .before .before .before .before .before .before .before .before .before .tail-at .ensures .0) (back-readable (c .before .before .before .before .before .before .before .before .before .before .before .loop .inv) (c .before .before .before .before .before .before .before .before .before .before .before .before .before .before .before .pre .0))
+
+loop-less : tie.Need-loop-less Inv-loop μ-loop
+loop-less c = omega (arith, back-long (c .before .before .before .before .before .before .before .before .before .before .before .loop .inv) (c .before .before .before .before .before .before .before .before .before .before .before .before .before .before .before .pre .0))
+
+loop-again : tie.Need-loop-again Inv-loop μ-loop
+loop-again c =
+    back-goes-on (c .before .before .before .before .before .before .before .before .before .before .before .loop .inv) (c .before .before .before .before .before .before .before .before .before .before .before .before .before .before .before .pre .0) (c .before .before .before .before .before .before .before .before .before .before .tail-at .ensures .0) (c .before .before .before .before .before .before .before .before .if1 .left) (c .before .before .before .before .before .restore-one .kept .0) (c .before .before .before .before .before .restore-one .kept .1 .0) (c .before .before .before .before .before .restore-one .ensures)
+
+pub restore-to-mark-spec : {M : Type 1} → statement M
+restore-to-mark-spec =
+    tie.close
+    (tie.spec
+    Inv-loop
+    μ-loop
+    loop-holds
+    tail-at-requires
+    sub-result
+    same-length
+    same-length-2
+    returns
+    restore-one-requires
+    add-u
+    sub-u
+    loop-less
+    loop-again)

@@ -1,0 +1,77 @@
+-- `journal::back::take_back` meets its contract: what the card's soundness tells, and then the steps one after the other. Assumes nothing.
+use Prim.Native.Nat.{_≤_}
+use native.Mathlib.Omega.{arith}
+use borrow.Author.Needs.{needs}
+use lib.ListN.{length}
+use Rattle.card.specs.Row.{Card, lent}
+use Rattle.journal.proofs.Steps.{used-inside, take-back-ready, take-back-steps}
+use Rattle.journal.proofs.back.take_back.Statement.{statement}
+use Rattle.journal.proofs.back.take_back.Tie as tie
+
+abbrev whole : tie.Start → Card
+whole s = lent (s .args .table .now) (s .args .files .now) (s .args .journal .now)
+
+long : (s : tie.Start) → 4 ≤ length (s .args .journal .now)
+long s = omega (arith, used-inside (whole s) (s .pre .0))
+
+used-bytes-requires : tie.Need-used-bytes-requires
+used-bytes-requires c κs = long (c .before .before .before .before)
+
+scripts-on-trial-requires : tie.Need-scripts-on-trial-requires
+scripts-on-trial-requires c κs = long (c .before .before .before .before .before .before)
+
+restore-to-mark-requires : tie.Need-restore-to-mark-requires
+restore-to-mark-requires c κs = let s = c .before .before .before .before .before .before .before .before .before .before in take-back-ready (whole s) (s .pre .0) (c .before .before .before .before .before .used-bytes .ensures .0) (c .before .before .before .scripts-on-trial .ensures .0) (s .pre .1)
+
+sub-put-head : tie.Need-sub-put-head
+sub-put-head c = search needs
+
+cast-put-head : tie.Need-cast-put-head
+cast-put-head c = search needs
+
+put-head-requires : tie.Need-put-head-requires
+put-head-requires c κs = long (c .before .before .before .before .before .before .before .before .before .before .before .before .before .before .before .before)
+
+add-fill : tie.Need-add-fill
+add-fill c = search needs
+
+sub-fill : tie.Need-sub-fill
+sub-fill c = search needs
+
+fill-requires : tie.Need-fill-requires
+fill-requires c κs =
+    let s = c .before .before .before .before .before .before .before .before .before .before .before .before .before .before .before .before .before .before .before .before in
+    omega (arith, used-inside (whole s) (s .pre .0), c .before .before .before .before .before .before .before .before .before .before .before .before .before .before .before .used-bytes .ensures .0, c .before .before .before .before .before .before .before .before .before .restore-to-mark .ensures .2, c .before .before .before .put-head .kept .0)
+
+same-length : tie.Need-same-length
+same-length c = search needs
+
+same-length-2 : tie.Need-same-length-2
+same-length-2 c = search needs
+
+same-length-3 : tie.Need-same-length-3
+same-length-3 c = search needs
+
+returns : tie.Need-returns
+returns c =
+    let s = c .before .before .before .before .before .before .before .before .before .before .before .before .before .before .before .before .before .before .before .before .before .before .before in
+    let r = c .before .before .before .before .before .before .before .before .before .before .before .before .restore-to-mark .ensures in
+    take-back-steps (whole s) (s .pre .0) (c .before .before .before .before .before .before .before .before .before .before .before .before .before .before .before .before .before .before .used-bytes .ensures .0) (c .before .before .before .before .before .before .before .before .before .before .before .before .before .before .before .before .scripts-on-trial .ensures .0) (r .0) (r .1) (omega (arith, r .2)) (c .before .before .before .before .before .before .put-head .ensures) (c .before .before .fill .ensures)
+
+pub take-back-spec : {M : Type 1} → statement M
+take-back-spec =
+    tie.close
+    (tie.spec
+    used-bytes-requires
+    scripts-on-trial-requires
+    restore-to-mark-requires
+    sub-put-head
+    cast-put-head
+    put-head-requires
+    add-fill
+    sub-fill
+    fill-requires
+    same-length
+    same-length-2
+    same-length-3
+    returns)

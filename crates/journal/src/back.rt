@@ -1,0 +1,73 @@
+// Taking the newest script back, and confirming all.
+use crate::HEAD_SIZE;
+use crate::HOLDS_TABLE_BYTE;
+use crate::MARKS_START;
+use crate::TAIL_SIZE;
+use crate::read::scripts_on_trial;
+use crate::read::tail_at;
+use crate::read::used_bytes;
+ghost use mathlib.Core.Path.{_≡_};
+ghost use mathlib.Core.Bool.{true};
+ghost use Prim.Native.Nat.{_+_, _≤_};
+ghost use lib.ListN.{length, drop};
+ghost use Rattle.octets.specs.Bytes.{zeros, allZero};
+ghost use Rattle.card.specs.Row.{lent};
+ghost use Rattle.journal.specs.Entries.{usedBytes, scriptsOnTrial, readable, entryAt, entriesBack};
+ghost use Rattle.journal.specs.Sound.{allSound, marks, soundCard};
+ghost use Rattle.journal.specs.Changes.{memoryOf, memoryFor, restoreOne, restore, sinceMark, behindMark, bytesTaken, takenBack};
+
+// The old bytes of the entry that ends where the first u bytes of entries end are given back; they lie inside their memory.
+fn restore_one(table: &mut [u8], files: &mut [u8], journal: &[u8], u: usize)
+    requires { ⌜ (4 + u ≤ length (now journal)) × (readable (now journal) u ≡ true)
+        × (entryAt (now journal) u .place + length (entryAt (now journal) u .old) ≤ length (memoryOf (memoryFor (entryAt (now journal) u)) (lent (now table) (now files) (now journal)))) ⌝ }
+    ensures { λ _. ⌜ lent (now (table .exit)) (now (files .exit)) (now (journal .entry)) ≡ restoreOne (entryAt (now (journal .entry)) u) (lent (now (table .entry)) (now (files .entry)) (now (journal .entry))) ⌝ }
+{
+    let tail = tail_at(journal, u);
+    let place = tail.place;
+    let at = HEAD_SIZE + u - (TAIL_SIZE + tail.count);
+    let end = at + tail.count;
+    if tail.kind == HOLDS_TABLE_BYTE {
+        octets::copy(table, place, &journal[at..end]);
+        return;
+    }
+    octets::copy(files, place, &journal[at..end]);
+}
+
+// Entries are given back, newest first, to the newest mark; what comes out is how many bytes of entries are behind that mark.
+fn restore_to_mark(table: &mut [u8], files: &mut [u8], journal: &[u8], used: usize) -> usize
+    requires { ⌜ (4 + used ≤ length (now journal)) × (allSound (now table) (length (now files)) (entriesBack used (now journal) used) ≡ true) × (1 ≤ marks (entriesBack used (now journal) used)) ⌝ }
+    ensures { λ r. ⌜ (lent (now (table .exit)) (now (files .exit)) (now (journal .entry)) ≡ restore (sinceMark (entriesBack used (now (journal .entry)) used)) (lent (now (table .entry)) (now (files .entry)) (now (journal .entry))))
+        × (r ≡ bytesTaken (behindMark (entriesBack used (now (journal .entry)) used))) × (r + 8 ≤ used) ⌝ }
+{
+    let mut u: usize = used;
+    loop {
+        let tail = tail_at(journal, u);
+        if tail.kind == MARKS_START {
+            return u - TAIL_SIZE;
+        }
+        restore_one(table, files, journal, u);
+        u -= TAIL_SIZE + tail.count;
+    }
+}
+
+// The newest script of a sound card is taken back: its entries, then the head, then the freed bytes.
+pub fn take_back(table: &mut [u8], files: &mut [u8], journal: &mut [u8])
+    requires { ⌜ (soundCard (lent (now table) (now files) (now journal)) ≡ true) × (1 ≤ scriptsOnTrial (now journal)) ⌝ }
+    ensures { λ _. ⌜ lent (now (table .exit)) (now (files .exit)) (now (journal .exit)) ≡ takenBack (lent (now (table .entry)) (now (files .entry)) (now (journal .entry))) ⌝ }
+{
+    let used = used_bytes(journal);
+    let scripts = scripts_on_trial(journal);
+    let u = restore_to_mark(table, files, journal, used);
+    octets::put_head(journal, u, (scripts - 1) as u8, 0);
+    octets::fill(journal, HEAD_SIZE + u, used - u, 0);
+}
+
+// All scripts of a journal that is zero behind its used bytes are confirmed: the head, then the rest.
+pub fn confirm(journal: &mut [u8])
+    requires { ⌜ (4 + usedBytes (now journal) ≤ length (now journal)) × (allZero (drop (4 + usedBytes (now journal)) (now journal)) ≡ true) ⌝ }
+    ensures { λ _. ⌜ now (journal .exit) ≡ zeros (length (now (journal .entry))) ⌝ }
+{
+    let used = used_bytes(journal);
+    octets::put_head(journal, 0, 0, 0);
+    octets::fill(journal, HEAD_SIZE, used, 0);
+}

@@ -1,0 +1,77 @@
+// Reading the journal's head and, back from the end, its entries.
+use crate::HEAD_SIZE;
+use crate::TAIL_SIZE;
+use crate::Tail;
+ghost use mathlib.Core.Path.{_≡_};
+ghost use Prim.Native.Nat.{_+_, _-_, _≤_, _<_};
+ghost use lib.ListN.{length};
+ghost use Rattle.journal.specs.Entries.{usedBytes, scriptsOnTrial, room, tailIn, tailAt, formed, readable};
+
+// The used bytes U.
+pub fn used_bytes(journal: &[u8]) -> usize
+    requires { ⌜ 4 ≤ length (now journal) ⌝ }
+    ensures { λ r. ⌜ (r ≡ usedBytes (now (journal .entry))) × (r < 65536) ⌝ }
+{
+    octets::num_at(journal, 0)
+}
+
+// The scripts on trial.
+pub fn scripts_on_trial(journal: &[u8]) -> usize
+    requires { ⌜ 4 ≤ length (now journal) ⌝ }
+    ensures { λ r. ⌜ (r ≡ scriptsOnTrial (now (journal .entry))) × (r < 256) ⌝ }
+{
+    octets::wide(journal[2])
+}
+
+// The most that U can be.
+pub fn room_of(journal: &[u8]) -> usize
+    requires { ⌜ 4 ≤ length (now journal) ⌝ }
+    ensures { λ r. ⌜ r ≡ room (now (journal .entry)) ⌝ }
+{
+    journal.len() - HEAD_SIZE
+}
+
+// What the eight bytes of a tail hold.
+fn tail_of(bytes: &[u8]) -> Tail
+    requires { ⌜ length (now bytes) ≡ 8 ⌝ }
+    ensures { λ r. ⌜ (r ≡ tailIn (now (bytes .entry))) × (r .kind < 256) × (r .place < 65536) × (r .count < 65536) ⌝ }
+{
+    Tail {
+        kind: octets::wide(bytes[0]),
+        place: octets::num_at(bytes, 2),
+        count: octets::num_at(bytes, 4),
+    }
+}
+
+// The tail that ends where the first u bytes of entries end.
+pub fn tail_at(journal: &[u8], u: usize) -> Tail
+    requires { ⌜ (8 ≤ u) × (4 + u ≤ length (now journal)) ⌝ }
+    ensures { λ r. ⌜ (r ≡ tailAt (now (journal .entry)) u) × (r .kind < 256) × (r .place < 65536) × (r .count < 65536) ⌝ }
+{
+    let at = HEAD_SIZE + u - TAIL_SIZE;
+    tail_of(&journal[at..at + TAIL_SIZE])
+}
+
+// Whether eight bytes have the form of a tail: bytes 1, 6 and 7 are zero.
+fn tail_formed(bytes: &[u8]) -> bool
+    requires { ⌜ length (now bytes) ≡ 8 ⌝ }
+    ensures { λ r. ⌜ r ≡ formed (now (bytes .entry)) ⌝ }
+{
+    (bytes[1] == 0) & ((bytes[6] == 0) & (bytes[7] == 0))
+}
+
+// Whether a whole entry ends where the first u bytes of entries end.
+pub fn is_readable(journal: &[u8], u: usize) -> bool
+    requires { ⌜ 4 + u ≤ length (now journal) ⌝ }
+    ensures { λ r. ⌜ r ≡ readable (now (journal .entry)) u ⌝ }
+{
+    if u < TAIL_SIZE {
+        return false;
+    }
+    let tail = tail_at(journal, u);
+    if u < TAIL_SIZE + tail.count {
+        return false;
+    }
+    let at = HEAD_SIZE + u - TAIL_SIZE;
+    tail_formed(&journal[at..at + TAIL_SIZE])
+}

@@ -1,0 +1,151 @@
+// The soundness of the journal beside a table and a file memory, for slices of any length and content.
+use crate::HEAD_SIZE;
+use crate::HOLDS_FILE_BYTES;
+use crate::HOLDS_TABLE_BYTE;
+use crate::JOURNAL_LENGTH;
+use crate::MARKS_START;
+use crate::MOST_SCRIPTS;
+use crate::TAIL_SIZE;
+use crate::read::is_readable;
+use crate::read::scripts_on_trial;
+use crate::read::tail_at;
+use crate::read::used_bytes;
+use card::Row;
+ghost use mathlib.Core.Path.{_≡_};
+ghost use mathlib.Core.Bool.{true};
+ghost use Prim.Native.Nat.{_+_, _≤_, _<_};
+ghost use lib.Dec.{eqb};
+ghost use lib.ListN.{length};
+ghost use Rattle.octets.specs.Choice.{pick};
+ghost use Rattle.card.specs.Row.{lent};
+ghost use Rattle.journal.specs.Entries.{marksStart, readable, entryAt, entriesBack};
+ghost use Rattle.journal.specs.Sound.{tableByteSound, tablePlaceSound, formSound, entrySound, entriesSound, soundJournal, soundCard};
+
+// "n 1 to 255"
+const MOST_OLD_BYTES: usize = 255;
+
+// A table byte's place in its entry, and its old value.
+fn table_byte_sound(r: Row, at: usize, old: usize) -> bool
+    ensures { λ b. ⌜ b ≡ tableByteSound r at old ⌝ }
+{
+    if at == 10 {
+        return card::rules::is_file(r) & card::rules::state_sound(old);
+    }
+    (at == 9) & ((r.kind == card::CYCLIC) & card::rules::newest_sound(r, old))
+}
+
+// A table byte at a place of the table, with its old value.
+fn table_place_sound(table: &[u8], place: usize, old: usize) -> bool
+    requires { ⌜ place < 65536 ⌝ }
+    ensures { λ b. ⌜ b ≡ tablePlaceSound (now (table .entry)) place old ⌝ }
+{
+    let e = place / card::ENTRY_SIZE;
+    if card::count(table) <= e {
+        return false;
+    }
+    let r = card::row_at(table, e);
+    table_byte_sound(r, place % card::ENTRY_SIZE, old)
+}
+
+// An entry of a kind, with its place, its number of old bytes and the first of these.
+fn form_sound(table: &[u8], files: usize, kind: usize, place: usize, n: usize, old: usize) -> bool
+    requires { ⌜ (place < 65536) × (n < 65536) ⌝ }
+    ensures { λ b. ⌜ b ≡ formSound (now (table .entry)) files kind place n old ⌝ }
+{
+    if kind == MARKS_START {
+        return (place == 0) & (n == 0);
+    }
+    if kind == HOLDS_FILE_BYTES {
+        return (1 <= n) & ((n <= MOST_OLD_BYTES) & (place + n <= files));
+    }
+    if kind != HOLDS_TABLE_BYTE {
+        return false;
+    }
+    if n != 1 {
+        return false;
+    }
+    table_place_sound(table, place, old)
+}
+
+// The entry that ends where the first u bytes of entries end.
+fn entry_sound(table: &[u8], files: usize, journal: &[u8], u: usize) -> bool
+    requires { ⌜ (4 + u ≤ length (now journal)) × (readable (now journal) u ≡ true) ⌝ }
+    ensures { λ b. ⌜ b ≡ entrySound (now (table .entry)) files (entryAt (now (journal .entry)) u) ⌝ }
+{
+    let tail = tail_at(journal, u);
+    let n = tail.count;
+    if n == 0 {
+        return form_sound(table, files, tail.kind, tail.place, 0, 0);
+    }
+    let at = HEAD_SIZE + u - (TAIL_SIZE + n);
+    let old = octets::wide(journal[at]);
+    form_sound(table, files, tail.kind, tail.place, n, old)
+}
+
+// 1 for a mark's kind, 0 for another.
+fn one_if_mark(kind: usize) -> usize
+    ensures { λ n. ⌜ (n ≡ pick (eqb kind marksStart) 1 0) × (n ≤ 1) ⌝ }
+{
+    if kind == MARKS_START {
+        return 1;
+    }
+    0
+}
+
+// The entries, read back from the end of the used bytes: they fill them exactly, each is sound, the oldest is a mark, and there
+// are as many marks as scripts on trial.
+fn entries_sound(table: &[u8], files: usize, journal: &[u8], used: usize, scripts: usize) -> bool
+    requires { ⌜ 4 + used ≤ length (now journal) ⌝ }
+    ensures { λ b. ⌜ b ≡ entriesSound (now (table .entry)) files scripts (entriesBack used (now (journal .entry)) used) ⌝ }
+{
+    let mut u: usize = used;
+    let mut marks: usize = 0;
+    let mut oldest = true;
+    while 0 < u {
+        if !is_readable(journal, u) {
+            return false;
+        }
+        if !entry_sound(table, files, journal, u) {
+            return false;
+        }
+        let tail = tail_at(journal, u);
+        oldest = tail.kind == MARKS_START;
+        marks += one_if_mark(tail.kind);
+        u -= TAIL_SIZE + tail.count;
+    }
+    oldest & (marks == scripts)
+}
+
+// A journal beside a table and a file memory.
+pub fn sound_journal(table: &[u8], files: &[u8], journal: &[u8]) -> bool
+    ensures { λ b. ⌜ b ≡ soundJournal (now (table .entry)) (now (files .entry)) (now (journal .entry)) ⌝ }
+{
+    if journal.len() != JOURNAL_LENGTH {
+        return false;
+    }
+    if journal[3] != 0 {
+        return false;
+    }
+    let used = used_bytes(journal);
+    if JOURNAL_LENGTH - HEAD_SIZE < used {
+        return false;
+    }
+    let scripts = scripts_on_trial(journal);
+    if MOST_SCRIPTS < scripts {
+        return false;
+    }
+    if !octets::all_zero(&journal[HEAD_SIZE + used..]) {
+        return false;
+    }
+    entries_sound(table, files.len(), journal, used, scripts)
+}
+
+// A card: table, file memory and journal.
+pub fn sound_card(table: &[u8], files: &[u8], journal: &[u8]) -> bool
+    ensures { λ b. ⌜ b ≡ soundCard (lent (now (table .entry)) (now (files .entry)) (now (journal .entry))) ⌝ }
+{
+    if !card::sound::sound_table(table, files) {
+        return false;
+    }
+    sound_journal(table, files, journal)
+}

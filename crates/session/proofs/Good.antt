@@ -1,0 +1,180 @@
+-- The session of a script on a sound table: it starts good, what it finds belongs to its root, and it stays good. Assumes nothing.
+use mathlib.Core.Path.{_≡_, refl, ap, _∙_}
+use mathlib.Core.Bool.{Bool, true, false, _||_}
+use mathlib.Core.List.{List, [], _∷_}
+use Prim.Native.Nat.{ℕ, zero, suc, _+_, _*_, _≤_, _<_}
+use native.Mathlib.Decide.{decLt}
+use native.Mathlib.Omega.{arith}
+use lib.Dec.{eqb}
+use lib.ListN.{length}
+use borrow.Author.Tests.{eqb-true, ne-eqb}
+use Rattle.octets.specs.Choice.{pick}
+use Rattle.octets.specs.Bytes.{overwrite}
+use Rattle.octets.proofs.Writes.{write-length}
+use Rattle.card.specs.declared.Row.{Row}
+use Rattle.card.specs.declared.tree.Found.the-variants.{At}
+use Rattle.card.specs.Row.{entries, rowOf, isADF, isCyclic, isDirectory, isFile, hasRecords}
+use Rattle.card.specs.Sound.{recordCount, soundTable}
+use Rattle.card.specs.Tree.{isRoot, rootIn, rootOf}
+use Rattle.card.proofs.Promises.{some-entries, file-kind, records-some, entry-own, first-kind, no-directory-file, parent-directory}
+use Rattle.card.proofs.Kept.{withBytes, changed-entries, row-alike}
+use Rattle.session.specs.declared.Session.{Session}
+use Rattle.session.specs.Session.{none, mostWaiting, start, dropped, putDown, atRecord, moved, selected}
+use Rattle.session.specs.Select.{find}
+use Rattle.session.specs.Good.{Belongs, GoodFile, Good}
+use Rattle.session.proofs.Owned.{on-pick, root-belongs, parent-belongs, find-owned}
+
+-- kinds
+either : (a b : Bool) {P : Type 0} → (a ≡ true → P) → (b ≡ true → P) → (a || b) ≡ true → P
+either true b f g h = f refl
+either false b f g h = g h
+
+root-directory : (r : Row) → isRoot r ≡ true → isDirectory r ≡ true
+root-directory r = either (eqb (r .kind) 1) (eqb (r .kind) 3) (λ e. rw (eqb-true (r .kind) 1 e)) (λ e. rw (eqb-true (r .kind) 3 e))
+
+file-no-root : (r : Row) → isFile r ≡ true → isRoot r ≡ false
+file-no-root r h = let k = file-kind r h in rw (ne-eqb (r .kind) 1 (omega arith), ne-eqb (r .kind) 3 (omega arith))
+
+-- moves of a good session, and its waiting bytes
+module _ (t : List ℕ) (s : Session) (g : Good t s) where
+  good-moved : (d f n : ℕ) → Belongs t (s .root) d → isDirectory (rowOf t d) ≡ true → (1 ≤ f → GoodFile t (s .root) f n) → (f ≡ none → n ≡ none) → Good t (moved s d f n)
+  unfolding moved
+  good-moved d f n b y file unnumbered =
+      record {
+        rootInside = g .rootInside;
+        root = g .root;
+        directory = b;
+        isDirectory = y;
+        file = file;
+        unnumbered = unnumbered;
+        waiting = g .waiting;
+        valid = g .valid;
+      }
+
+  pub good-record : (n : ℕ) → (1 ≤ n → (1 ≤ s .file) × (hasRecords (rowOf t (s .file)) ≡ true) × (n ≤ recordCount (rowOf t (s .file)))) → Good t (atRecord s n)
+  unfolding atRecord moved
+  good-record n h =
+      good-moved (s .directory) (s .file) n (g .directory) (g .isDirectory)
+      (λ f. record {
+        belongs = g .file f .belongs;
+        isFile = g .file f .isFile;
+        numbered = λ p. h p .1;
+        within = λ p. h p .2;
+      })
+      (λ z. elim (decLt 0 n) [ yes p ↦ let k = h p .0 in absurd (omega arith) | no q ↦ omega arith ])
+
+  waits : (w : List ℕ) (valid kept : ℕ) → length w ≡ mostWaiting → valid ≤ mostWaiting → Good t (record {
+    root = s .root;
+    directory = s .directory;
+    file = s .file;
+    number = s .number;
+    waiting = w;
+    valid = valid;
+    kept = kept;
+  })
+  waits w valid kept h k =
+      record {
+        rootInside = g .rootInside;
+        root = g .root;
+        directory = g .directory;
+        isDirectory = g .isDirectory;
+        file = g .file;
+        unnumbered = g .unnumbered;
+        waiting = h;
+        valid = k;
+      }
+
+  pub good-dropped : Good t (dropped s)
+  unfolding dropped
+  good-dropped = waits (s .waiting) 0 0 (g .waiting) (omega arith)
+
+  pub good-put : (d : List ℕ) (n word : ℕ) → length d ≤ mostWaiting → n ≤ mostWaiting → Good t (putDown s d n word)
+  unfolding putDown
+  good-put d n word h k =
+      let w = g .waiting in
+      waits (overwrite (s .waiting) 0 d) n word (write-length (s .waiting) 0 d (omega arith) ∙ w) k
+
+-- a table with the same entries, but for the bytes of the newest record and of the state
+module _ (t u : List ℕ) (count : entries u ≡ entries t) (alike : (d : ℕ) → rowOf u d ≡ withBytes (rowOf t d) (rowOf u d .newest) (rowOf u d .state)) where
+  same-root : (n e : ℕ) → rootIn n u e ≡ rootIn n t e
+  unfolding rootIn
+  same-root zero e = refl
+  same-root (suc n) e = λ i. elim (isRoot (alike e i)) [ true ↦ e | false ↦ same-root n (alike e i .parent) i ]
+
+  belongs-kept : (root e : ℕ) → Belongs t root e → Belongs u root e
+  unfolding rootOf
+  belongs-kept root e b = record { inside = rw count (b .inside); owner = same-root e e ∙ b .owner }
+
+  pub good-kept : (s : Session) → Good t s → Good u s
+  good-kept s g =
+      record {
+        rootInside = rw count (g .rootInside);
+        root = ap isRoot (alike (s .root)) ∙ g .root;
+        directory = belongs-kept (s .root) (s .directory) (g .directory);
+        isDirectory = ap isDirectory (alike (s .directory)) ∙ g .isDirectory;
+        file = λ h. record {
+          belongs = belongs-kept (s .root) (s .file) (g .file h .belongs);
+          isFile = ap isFile (alike (s .file)) ∙ g .file h .isFile;
+          numbered = λ p. ap hasRecords (alike (s .file)) ∙ g .file h .numbered p;
+          within = λ p. rw (ap recordCount (alike (s .file))) (g .file h .within p);
+        };
+        unnumbered = g .unnumbered;
+        waiting = g .waiting;
+        valid = g .valid;
+      }
+
+pub good-changed : (t : List ℕ) (e k v : ℕ) → e < entries t → 9 ≤ k → k ≤ 10 → (s : Session) → Good t s → Good (overwrite t (16 * e + k) (v ∷ [])) s
+good-changed t e k v here low high =
+    good-kept t (overwrite t (16 * e + k) (v ∷ [])) (changed-entries t e k v here (omega arith)) (row-alike t e k v here low high)
+
+module _ (t files : List ℕ) (sound : soundTable t files ≡ true) where
+  -- the start
+  pub good-start : (a : ℕ) → a < entries t → isRoot (rowOf t a) ≡ true → Good t (start a)
+  unfolding start
+  good-start a here y =
+      record {
+        rootInside = here;
+        root = y;
+        directory = root-belongs t files sound a here y;
+        isDirectory = root-directory (rowOf t a) y;
+        file = λ h. absurd (omega arith);
+        unnumbered = λ h. refl;
+        waiting = refl;
+        valid = omega arith;
+      }
+
+  pub good-shared : Good t (start 0)
+  good-shared = good-start 0 (some-entries t files sound) (rw (first-kind t files sound 0 (some-entries t files sound) refl))
+
+  pub good-ADF : (a : ℕ) → a < entries t → isADF (rowOf t a) ≡ true → Good t (start a)
+  good-ADF a here h = good-start a here (rw (eqb-true (rowOf t a .kind) 3 h))
+
+  -- a selection
+  module _ (s : Session) (g : Good t s) (e : ℕ) (b : Belongs t (s .root) e) where
+    file-selected : isFile (rowOf t e) ≡ true → Good t (moved s (rowOf t e .parent) e (pick (isCyclic (rowOf t e)) 1 none))
+    file-selected y =
+        good-moved t s g (rowOf t e .parent) e _ (parent-belongs t files sound (s .root) e b (file-no-root (rowOf t e) y)) (parent-directory t files sound e (b .inside) other)
+        (λ h. record {
+          belongs = b;
+          isFile = y;
+          numbered = on-pick (λ n. 1 ≤ n → hasRecords (rowOf t e) ≡ true) (isCyclic (rowOf t e)) 1 none (λ c h. has c) (λ c h. absurd (omega arith));
+          within = on-pick (λ n. 1 ≤ n → n ≤ recordCount (rowOf t e)) (isCyclic (rowOf t e)) 1 none (λ c h. records-some (length files) (rowOf t e) (entry-own t files sound e (b .inside)) (has c)) (λ c h. absurd (omega arith));
+        })
+        (λ z. absurd (other z))
+      where
+        other : e ≡ 0 → ⊥
+        other z = let k = file-kind (rowOf t e) y in let f = first-kind t files sound e (b .inside) z in omega arith
+
+        has : isCyclic (rowOf t e) ≡ true → hasRecords (rowOf t e) ≡ true
+        has c = rw (eqb-true (rowOf t e .kind) 6 c)
+
+    pub good-selected : Good t (selected s e (rowOf t e))
+    unfolding selected
+    good-selected =
+        on-pick (Good t) (isDirectory (rowOf t e)) _ _
+        (λ y. good-moved t s g e none none b y (λ h. absurd (omega arith)) (λ z. refl))
+        (λ z. file-selected (no-directory-file t files sound e (b .inside) z))
+
+  -- what it finds: never the other application's
+  pub find-belongs : (s : Session) → Good t s → (p1 : ℕ) («data» : List ℕ) (e : ℕ) → find t (s .root) (s .directory) p1 «data» ≡ At e → Belongs t (s .root) e
+  find-belongs s g = find-owned t files sound (s .root) (s .directory) (g .rootInside) (g .root) (g .directory)

@@ -1,0 +1,4 @@
+pub mod Template
+pub mod Finds
+pub mod Owned
+pub mod Good

@@ -1,0 +1,116 @@
+// The FCP of an entry.
+use card::Row;
+ghost use mathlib.Core.Path.{_≡_};
+ghost use mathlib.Core.Bool.{true};
+ghost use Prim.Native.Nat.{_≤_};
+ghost use lib.ListN.{length};
+ghost use Rattle.octets.specs.Bytes.{overwrite};
+ghost use Rattle.card.specs.Row.{Narrow, isDirectory, isTransparent};
+ghost use Rattle.session.specs.Fcp.{FcpFits};
+ghost use Rattle.session.specs.Fcp as spec;
+
+// A directory's.
+fn of_directory(r: Row) -> [u8; 13]
+    requires { ⌜ (isDirectory r ≡ true) × Narrow r ⌝ }
+    ensures { λ b. ⌜ b ≡ spec.fcp r ⌝ }
+{
+    [
+        0x62,
+        11,
+        0x82,
+        2,
+        0x78,
+        0x21,
+        0x83,
+        2,
+        (r.identifier / 256 % 256) as u8,
+        (r.identifier % 256) as u8,
+        0x8A,
+        1,
+        r.state as u8,
+    ]
+}
+
+// A transparent file's.
+fn of_transparent(r: Row) -> [u8; 17]
+    requires { ⌜ (isTransparent r ≡ true) × Narrow r ⌝ }
+    ensures { λ b. ⌜ b ≡ spec.fcp r ⌝ }
+{
+    [
+        0x62,
+        15,
+        0x82,
+        2,
+        0x41,
+        0x21,
+        0x83,
+        2,
+        (r.identifier / 256 % 256) as u8,
+        (r.identifier % 256) as u8,
+        0x8A,
+        1,
+        r.state as u8,
+        0x80,
+        2,
+        (r.size / 256 % 256) as u8,
+        (r.size % 256) as u8,
+    ]
+}
+
+// 42 for a linear file, 46 for a cyclic one.
+fn record_descriptor(r: Row) -> u8
+    requires { ⌜ (5 ≤ r .kind) × (r .kind ≤ 6) ⌝ }
+    ensures { λ b. ⌜ b ≡ spec.descriptor r ⌝ }
+{
+    if r.kind == card::LINEAR {
+        return 0x42;
+    }
+    0x46
+}
+
+// A record file's.
+fn of_records(r: Row) -> [u8; 20]
+    requires { ⌜ (5 ≤ r .kind) × (r .kind ≤ 6) × FcpFits r × Narrow r ⌝ }
+    ensures { λ b. ⌜ b ≡ spec.fcp r ⌝ }
+{
+    let count = card::records::record_count(r);
+    [
+        0x62,
+        18,
+        0x82,
+        5,
+        record_descriptor(r),
+        0x21,
+        (r.record / 256 % 256) as u8,
+        (r.record % 256) as u8,
+        count as u8,
+        0x83,
+        2,
+        (r.identifier / 256 % 256) as u8,
+        (r.identifier % 256) as u8,
+        0x8A,
+        1,
+        r.state as u8,
+        0x80,
+        2,
+        (r.size / 256 % 256) as u8,
+        (r.size % 256) as u8,
+    ]
+}
+
+// The FCP of an entry of a sound table is put at the start of some bytes; what comes out is its length.
+pub fn put_fcp(bytes: &mut [u8], r: Row) -> usize
+    requires { ⌜ (20 ≤ length (now bytes)) × FcpFits r × Narrow r ⌝ }
+    ensures { λ n. ⌜ (now (bytes .exit) ≡ overwrite (now (bytes .entry)) 0 (spec.fcp r)) × (n ≡ length (spec.fcp r)) × (n ≤ 20) ⌝ }
+{
+    if card::rules::is_directory(r) {
+        octets::copy(bytes, 0, &of_directory(r));
+        return 13;
+    }
+    if r.kind == card::TRANSPARENT {
+        octets::copy(bytes, 0, &of_transparent(r));
+        return 17;
+    }
+    octets::copy(bytes, 0, &of_records(r));
+    20
+}

@@ -1,0 +1,83 @@
+// How SELECT finds an entry.
+use card::tree::Found;
+use card::tree::child;
+ghost use mathlib.Core.Path.{_≡_};
+ghost use Prim.Native.Nat.{_≤_, _<_};
+ghost use lib.ListN.{length};
+ghost use Rattle.card.specs.Row.{entries};
+ghost use Rattle.card.specs.Tree.{ParentsInside};
+ghost use Rattle.session.specs.Select as spec;
+
+// An entry, if it has the identifier.
+fn if_named(table: &[u8], e: usize, identifier: usize) -> Found
+    requires { ⌜ e < entries (now table) ⌝ }
+    ensures { λ f. ⌜ f ≡ spec.ifNamed (now (table .entry)) e identifier ⌝ }
+{
+    let r = card::row_at(table, e);
+    if r.identifier == identifier {
+        return Found::At(e);
+    }
+    Found::Nothing
+}
+
+// A directory's parent, or a DF child of that parent.
+fn above(table: &[u8], parent: usize, identifier: usize) -> Found
+    requires { ⌜ parent < entries (now table) ⌝ }
+    ensures { λ f. ⌜ f ≡ spec.above (now (table .entry)) parent identifier ⌝ }
+{
+    let Found::At(e) = if_named(table, parent, identifier) else {
+        return child(table, parent, true, identifier);
+    };
+    Found::At(e)
+}
+
+// "P1 00": what an identifier finds.
+fn by_identifier(table: &[u8], root: usize, directory: usize, identifier: usize) -> Found
+    requires { ⌜ (root < entries (now table)) × (directory < entries (now table)) × ParentsInside (now table) ⌝ }
+    ensures { λ f. ⌜ f ≡ spec.byIdentifier (now (table .entry)) root directory identifier ⌝ }
+{
+    if let Found::At(e) = if_named(table, root, identifier) {
+        return Found::At(e);
+    }
+    if let Found::At(e) = child(table, directory, false, identifier) {
+        return Found::At(e);
+    }
+    if directory == root {
+        return Found::Nothing;
+    }
+    let parent = card::row_at(table, directory).parent;
+    above(table, parent, identifier)
+}
+
+// What a path of identifiers finds from an entry on, each a child of the one before.
+fn by_path(table: &[u8], from: usize, path: &[u8]) -> Found
+    ensures { λ f. ⌜ f ≡ spec.byPath (now (table .entry)) from (now (path .entry)) ⌝ }
+{
+    let mut e: usize = from;
+    let mut i: usize = 0;
+    while i + 1 < path.len() {
+        let Found::At(c) = child(table, e, false, octets::num_at(path, i)) else {
+            return Found::Nothing;
+        };
+        e = c;
+        i += 2;
+    }
+    if i < path.len() {
+        return Found::Nothing;
+    }
+    Found::At(e)
+}
+
+// The entry that a SELECT finds, from a root and a directory, with its P1 and data.
+pub fn find(table: &[u8], root: usize, directory: usize, p1: usize, data: &[u8]) -> Found
+    requires { ⌜ (root < entries (now table)) × (directory < entries (now table)) × ParentsInside (now table) × (2 ≤ length (now «data»)) ⌝ }
+    ensures { λ f. ⌜ f ≡ spec.find (now (table .entry)) root directory p1 (now («data» .entry)) ⌝ }
+{
+    if p1 == 0 {
+        return by_identifier(table, root, directory, octets::num_at(data, 0));
+    }
+    if p1 == 8 {
+        return by_path(table, root, data);
+    }
+    by_path(table, directory, data)
+}
