@@ -1,3 +1,12 @@
 pub mod Order
 pub mod Found
 pub mod Sums
+pub mod Rows
+pub mod Placed
+pub mod Passed
+pub mod Noted
+pub mod Fit
+pub mod Planned
+pub mod Roomy
+pub mod Keeps
+pub mod Errors

@@ -1,5 +1,5 @@
 -- Demand 3 for any history, from laws of one call: a refused call changes nothing; a take-back after an accepted run gives back the
--- card from before it; a call that is refused, and not with 5, is refused alike on the card that a take-back leaves; 5 is for runs.
+-- card from before it, if the run's script is bytes; a call that is refused, and not with 5, is refused alike on the card that a take-back leaves; 5 is for runs.
 -- Assumes nothing.
 use Prim.Native.Nat.{ℕ}
 use mathlib.Core.Path.{_≡_, refl, sym, ap, ap₂, _∙_, subst}
@@ -12,7 +12,7 @@ use Rattle.octets.specs.Choice.{pick}
 use Rattle.card.specs.Row.{Card}
 use Rattle.engine.specs.Calls.{Result}
 use Rattle.engine.specs.Numbers.{Arguments}
-use Rattle.engine.specs.History.{Call, running, takingBack, confirming, given, Seen, seen, gave, left, Past, anyOnTrial, struck, settled, past, afterRun, afterTakeBack, afterConfirm, afterCall, remainsFrom, remains, Demand3}
+use Rattle.engine.specs.History.{Call, running, takingBack, confirming, given, Seen, seen, gave, left, Past, anyOnTrial, struck, settled, past, afterRun, afterTakeBack, afterConfirm, afterCall, remainsFrom, remains, InBytes, AllInBytes, Demand3}
 
 -- the number that a result gives
 abbrev pub number : Result → ℕ
@@ -20,7 +20,7 @@ number r = r .answer .number
 
 pub record Laws : Type 0 where
   pub refused : (h : Call) (c : Card) → (number (given h c) ≡ 0 → ⊥) → given h c .card ≡ c
-  pub back : (a : Arguments) (c : Card) → number (given (running a) c) ≡ 0 → given takingBack (given (running a) c .card) .card ≡ c
+  pub back : (a : Arguments) (c : Card) → InBytes (running a) → number (given (running a) c) ≡ 0 → given takingBack (given (running a) c .card) .card ≡ c
   pub alike : (h : Call) (c : Card) → number (given takingBack c) ≡ 0 → (number (given h c) ≡ 0 → ⊥) → (number (given h c) ≡ 5 → ⊥)
       → seen (given h (given takingBack c .card)) ≡ seen (given h c)
   pub notBack : (c : Card) → number (given takingBack c) ≡ 5 → ⊥
@@ -36,7 +36,7 @@ record Refused (p : Past) : Type 0 where
 record Link (ps : List Past) (p : Past) (m c′ : Card) : Type 0 where
   pub card : given (p .call) m .card ≡ c′
   pub shown : seen (given (p .call) m) ≡ p .gave
-  pub trial : p .onTrial ≡ true → (a : Arguments) × (p .call ≡ running a) × (p .gave .answer .number ≡ 0)
+  pub trial : p .onTrial ≡ true → (a : Arguments) × (p .call ≡ running a) × (p .gave .answer .number ≡ 0) × InBytes (running a)
   pub newer : p .onTrial ≡ false → anyOnTrial ps ≡ true → Refused p
 
 -- what remains, newest first, leads from the first card to the last
@@ -101,10 +101,10 @@ five-done n z f = omega arith
 
 module _ (laws : Laws) where
   -- a take-back from an accepted run's card
-  strike-trial : (p : Past) (m c′ : Card) (a : Arguments) → p .call ≡ running a → p .gave .answer .number ≡ 0
+  strike-trial : (p : Past) (m c′ : Card) (a : Arguments) → p .call ≡ running a → p .gave .answer .number ≡ 0 → InBytes (running a)
       → seen (given (p .call) m) ≡ p .gave → given (p .call) m .card ≡ c′ → m ≡ given takingBack c′ .card
-  strike-trial p m c′ a ca n s e =
-      sym (laws .back a m (sym (ap (λ (h : Call). number (given h m)) ca) ∙ shown-number p (given (p .call) m) s ∙ n))
+  strike-trial p m c′ a ca n small s e =
+      sym (laws .back a m small (sym (ap (λ (h : Call). number (given h m)) ca) ∙ shown-number p (given (p .call) m) s ∙ n))
       ∙ ap (λ (k : Card). given takingBack k .card) (sym (ap (λ (h : Call). given h m .card) ca) ∙ e)
 
   -- a refused call leaves the card
@@ -130,8 +130,8 @@ module _ (laws : Laws) where
       → Reached c (pick on ps (p ∷ struck ps)) (given takingBack c′ .card)
   unfolding pick
   strike-at c p ps c′ true on r any ok below =
-      let t : (a : Arguments) × (p .call ≡ running a) × (p .gave .answer .number ≡ 0) = r .2 .trial on in
-      subst (λ (k : Card). Reached c ps k) (strike-trial p (r .0) c′ (t .0) (t .1) (t .2) (r .2 .shown) (r .2 .card)) (r .1)
+      let t : (a : Arguments) × (p .call ≡ running a) × (p .gave .answer .number ≡ 0) × InBytes (running a) = r .2 .trial on in
+      subst (λ (k : Card). Reached c ps k) (strike-trial p (r .0) c′ (t .0) (t .1) (t .2) (t .3) (r .2 .shown) (r .2 .card)) (r .1)
   strike-at c p ps c′ false off r any ok below =
       let m : Card = r .0 in
       let ref : Refused p = r .2 .newer off any in
@@ -175,15 +175,15 @@ module _ (laws : Laws) where
       (m, r, record { card = refl; shown = refl; trial = λ on. absurd (false≢true on); newer = λ _ any. newer any })
 
   -- a run
-  run-more : (c : Card) (ps : List Past) (m : Card) (a : Arguments) (done five : Bool) → Reached c ps m
+  run-more : (c : Card) (ps : List Past) (m : Card) (a : Arguments) → InBytes (running a) → (done five : Bool) → Reached c ps m
       → eqb (number (given (running a) m)) 0 ≡ done → eqb (number (given (running a) m)) 5 ≡ five
       → Reached c (pick five ps (past (running a) (given (running a) m) done ∷ ps)) (given (running a) m .card)
   unfolding pick past seen
-  run-more c ps m a done true r d f =
+  run-more c ps m a small done true r d f =
       subst (λ (k : Card). Reached c ps k) (sym (laws .refused (running a) m (λ z. five-done (number (given (running a) m)) z (eqb-true _ _ f)))) r
-  run-more c ps m a true false r d f =
-      (m, r, record { card = refl; shown = refl; trial = λ _. (a, refl, eqb-true _ _ d); newer = λ off _. absurd (false≢true (sym off)) })
-  run-more c ps m a false false r d f =
+  run-more c ps m a small true false r d f =
+      (m, r, record { card = refl; shown = refl; trial = λ _. (a, refl, eqb-true _ _ d, small); newer = λ off _. absurd (false≢true (sym off)) })
+  run-more c ps m a small false false r d f =
       stays c ps m (running a) r (λ _. record { notDone = eqb-false _ _ d; notFive = eqb-false _ _ f })
 
   -- a take-back
@@ -209,23 +209,23 @@ module _ (laws : Laws) where
       stays c ps m confirming r (λ _. unfold past seen in record { notDone = eqb-false _ _ d; notFive = laws .notConfirm m })
 
   -- one call more
-  call-more : (c : Card) (ps : List Past) (m : Card) (h : Call) → Reached c ps m → Reached c (afterCall h (given h m) ps) (given h m .card)
+  call-more : (c : Card) (ps : List Past) (m : Card) (h : Call) → InBytes h → Reached c ps m → Reached c (afterCall h (given h m) ps) (given h m .card)
   unfolding afterCall afterRun afterTakeBack afterConfirm
-  call-more c ps m (running a) r =
-      run-more c ps m a (eqb (number (given (running a) m)) 0) (eqb (number (given (running a) m)) 5) r refl refl
-  call-more c ps m takingBack r = back-more c ps m (eqb (number (given takingBack m)) 0) (anyOnTrial ps) r refl refl
-  call-more c ps m confirming r = confirm-more c ps m (eqb (number (given confirming m)) 0) r refl
+  call-more c ps m (running a) small r =
+      run-more c ps m a small (eqb (number (given (running a) m)) 0) (eqb (number (given (running a) m)) 5) r refl refl
+  call-more c ps m takingBack small r = back-more c ps m (eqb (number (given takingBack m)) 0) (anyOnTrial ps) r refl refl
+  call-more c ps m confirming small r = confirm-more c ps m (eqb (number (given confirming m)) 0) r refl
 
   -- a whole history
-  all-more : (c : Card) (ps : List Past) (m : Card) (hs : List Call) → Reached c ps m → Reached c (remainsFrom m ps hs) (left m hs)
+  all-more : (c : Card) (ps : List Past) (m : Card) (hs : List Call) → AllInBytes hs → Reached c ps m → Reached c (remainsFrom m ps hs) (left m hs)
   unfolding remainsFrom left
-  all-more c ps m [] r = r
-  all-more c ps m (h ∷ hs) r = all-more c (afterCall h (given h m) ps) (given h m .card) hs (call-more c ps m h r)
+  all-more c ps m [] small r = r
+  all-more c ps m (h ∷ hs) small r = all-more c (afterCall h (given h m) ps) (given h m .card) hs (small .1) (call-more c ps m h (small .0) r)
 
-  pub demand3 : (c : Card) (hs : List Call) → Demand3 c hs
+  pub demand3 : (c : Card) (hs : List Call) → AllInBytes hs → Demand3 c hs
   unfolding remains
-  demand3 c hs =
+  demand3 c hs small =
       let played : Replay c (remainsFrom c [] hs) (left c hs) =
-      replay c (remainsFrom c [] hs) (left c hs) (all-more c [] c hs refl)
+      replay c (remainsFrom c [] hs) (left c hs) (all-more c [] c hs small refl)
       in
       record { answers = played .0; card = played .1 }

@@ -1,3 +1,6 @@
 pub mod Worked
 pub mod History
 pub mod Answers
+pub mod LawsRefused
+pub mod LawsAlike
+pub mod Laws

@@ -1,12 +1,13 @@
 -- Demand 3: "Any history of scripts, take-backs and confirmations: strike out each script that was taken back with its take-back, and
 -- each run refused with number 5. What demand 2's rules give for the remaining calls, from the same start, is what the card gave: the
 -- same answers, and at the end the same table, files and journal, byte by byte."
-use Prim.Native.Nat.{ℕ}
+use Prim.Native.Nat.{ℕ, _<_}
 use mathlib.Core.Bool.{Bool, true, false, _||_}
 use mathlib.Core.Path.{_≡_}
 use mathlib.Core.List.{List, [], _∷_, map, reverse}
 use lib.Dec.{eqb}
 use Rattle.octets.specs.Choice.{pick}
+use Rattle.octets.specs.Bytes.{byte}
 use Rattle.card.specs.Row.{Card}
 use Rattle.engine.specs.declared.Answer.{Answer}
 use Rattle.engine.specs.Numbers.{Arguments}
@@ -86,6 +87,16 @@ remainsFrom c ps (h ∷ hs) = remainsFrom (given h c .card) (afterCall h (given 
 -- the calls of a history that remain, with what they gave, oldest first
 unfoldable pub remains : Card → List Call → List Past
 remains c hs = reverse (remainsFrom c [] hs)
+
+-- a script is bytes, and so is each script of a history
+abbrev pub InBytes : Call → Type 0
+InBytes (running a) = (i : ℕ) → byte (a .script) i < 256
+InBytes takingBack = Unit
+InBytes confirming = Unit
+
+abbrev pub AllInBytes : List Call → Type 0
+AllInBytes [] = Unit
+AllInBytes (h ∷ hs) = InBytes h × AllInBytes hs
 
 -- the remaining calls alone, from the same start, give the same answers, and leave the same card
 pub record Demand3 (c : Card) (hs : List Call) : Type 0 where

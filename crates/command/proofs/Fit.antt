@@ -1,0 +1,145 @@
+-- The plan of each instruction: what it writes is of a sound form where it goes, and its session is good. Assumes nothing.
+use mathlib.Core.Path.{_≡_}
+use mathlib.Core.Bool.{true, false}
+use mathlib.Core.List.{List, [], _∷_, _++_}
+use Prim.Native.Nat.{ℕ, _+_, _≤_}
+use native.Mathlib.Omega.{arith}
+use lib.ListN.{length, length-append}
+use Rattle.octets.specs.Bytes.{part, bytesOf}
+use Rattle.octets.proofs.Numbers.{bytesOf-length}
+use Rattle.card.specs.declared.Row.{Row}
+use Rattle.card.specs.declared.tree.Found.{Found}
+use Rattle.card.specs.declared.tree.Found.the-variants.{At, Nothing}
+use Rattle.card.specs.Row.{Card, rowOf, isFile, isCyclic, hasRecords}
+use Rattle.card.specs.Sound.{recordCount, stateSound, ownSound, soundTable}
+use Rattle.card.proofs.Promises.{records-some, records-few, entry-own}
+use Rattle.journal.specs.Changes.{Write}
+use Rattle.journal.proofs.Kept.{AllForms}
+use Rattle.session.specs.declared.Session.{Session}
+use Rattle.session.specs.Session.{atRecord, selected}
+use Rattle.session.specs.Select.{find}
+use Rattle.session.specs.Fcp.{fcp}
+use Rattle.session.specs.Good.{Belongs, GoodFile, Good}
+use Rattle.session.proofs.Owned.{on-pick}
+use Rattle.session.proofs.Good.{good-record, good-dropped, good-put, good-selected, find-belongs}
+use Rattle.session.proofs.Template.{fcp-short}
+use Rattle.command.specs.declared.Format.{Format}
+use Rattle.command.specs.declared.Format.the-variants.{Compact, Expanded}
+use Rattle.command.specs.declared.Command.{Command}
+use Rattle.command.specs.Outcomes.{Plan, failed, done, handed, produced}
+use Rattle.command.specs.Files.{File, fileAt, numberAfter, sum}
+use Rattle.command.specs.Plans.{offsetOf, selectEntry, select, readBinary, updateBinary, namedBy, atNamed, readRecord, updateRecord, searched, search, increase, switch, getResponse}
+use Rattle.command.proofs.Placed.{in-file, in-record, in-newest, in-state}
+use Rattle.command.proofs.Noted.{First, found-few, found-first}
+
+pub record Fit (card : Card) (p : Plan) : Type 0 where
+  pub forms : AllForms (p .writes) card
+  pub good : Good (card .table) (p .session)
+
+-- the ways in which a plan ends
+module _ (card : Card) (s : Session) (good : Good (card .table) s) where
+  pub fit-failed : (word : ℕ) → Fit card (failed s word)
+  unfolding failed
+  fit-failed word = record { forms = tt; good = good }
+
+  fit-done : (word : ℕ) (ws : List Write) → AllForms ws card → Fit card (done s word ws)
+  unfolding done
+  fit-done word ws forms = record { forms = forms; good = good-dropped (card .table) s good }
+
+  fit-handed : (word place n : ℕ) → Fit card (handed s word place n)
+  unfolding handed
+  fit-handed word place n = record { forms = tt; good = good-dropped (card .table) s good }
+
+  fit-produced : (format : Format) (word : ℕ) (d : List ℕ) (ws : List Write) → length d ≤ 255 → AllForms ws card → Fit card (produced format s word d ws)
+  unfolding produced
+  fit-produced Compact word d ws few forms = record { forms = forms; good = good-put (card .table) s good d (length d) word few few }
+  fit-produced Expanded word d ws few forms = record { forms = forms; good = good-put (card .table) s good d 0 0 few (omega arith) }
+
+  -- those that look at no file, or read one
+  pub fit-response : (c : Command) → Fit card (getResponse c s)
+  unfolding getResponse
+  fit-response c = record { forms = tt; good = good }
+
+  pub fit-read : (format : Format) (c : Command) (f : File) → Fit card (readBinary format c s f)
+  unfolding readBinary
+  fit-read format c f =
+      on-pick (Fit card) _ _ _ (λ e. fit-handed _ _ _) (λ e. on-pick (Fit card) _ _ _ (λ e. fit-handed _ _ _) (λ e. fit-handed _ _ _))
+
+module _ (card : Card) (sound : soundTable (card .table) (card .files) ≡ true) (s : Session) (good : Good (card .table) s) where
+  -- SELECT
+  entry-selected : (format : Format) (p2 e : ℕ) → Belongs (card .table) (s .root) e → Fit card (selectEntry format s p2 e (rowOf (card .table) e))
+  unfolding selectEntry
+  entry-selected format p2 e b =
+      let after = selected s e (rowOf (card .table) e) in
+      let g = good-selected (card .table) (card .files) sound s good e b in
+      let short = fcp-short (rowOf (card .table) e) in
+      on-pick (Fit card) _ _ _ (λ y. fit-done card after g _ [] tt) (λ y. fit-produced card after g format _ (fcp (rowOf (card .table) e)) [] (omega arith) tt)
+
+  pub fit-select : (format : Format) (p1 p2 : ℕ) («data» : List ℕ) (found : Found) → find (card .table) (s .root) (s .directory) p1 «data» ≡ found → Fit card (select format s p2 (card .table) found)
+  unfolding select
+  fit-select format p1 p2 «data» (At e) f = entry-selected format p2 e (find-belongs (card .table) (card .files) sound s good p1 «data» e f)
+  fit-select format p1 p2 «data» Nothing f = fit-failed card s good 0x6A82
+
+  -- on the current file
+  module _ (some : 1 ≤ s .file) where
+    abbrev r : Row
+    r = rowOf (card .table) (s .file)
+
+    file : GoodFile (card .table) (s .root) (s .file) (s .number)
+    file = good .file some
+
+    own : ownSound (length (card .files)) r ≡ true
+    own = entry-own (card .table) (card .files) sound (s .file) (file .belongs .inside)
+
+    pub fit-update : (c : Command) («data» : List ℕ) → 1 ≤ length «data» → length «data» ≤ 255 → offsetOf c + length «data» ≤ r .size → Fit card (updateBinary c «data» s (fileAt card (s .file)))
+    unfolding updateBinary
+    fit-update c «data» least most fits =
+        fit-done card s good _ _ (in-file card sound (s .file) (file .belongs .inside) (file .isFile) (offsetOf c) «data» least most fits, tt)
+
+    pub fit-switch : (state : ℕ) → stateSound state ≡ true → Fit card (switch state s (fileAt card (s .file)))
+    unfolding switch fileAt
+    fit-switch state ok = fit-done card s good _ _ (in-state card sound (s .file) (file .belongs .inside) (file .isFile) state ok, tt)
+
+    -- and it has records
+    module _ (has : hasRecords r ≡ true) where
+      at-number : (n : ℕ) → n ≤ recordCount r → Good (card .table) (atRecord s n)
+      at-number n most = good-record (card .table) s good n (λ h. (some, has, most))
+
+      at-named : (c : Command) (n : ℕ) → n ≤ recordCount r → Good (card .table) (atNamed c s n)
+      unfolding atNamed numberAfter
+      at-named c n most =
+          good-record (card .table) s good _
+          (on-pick (λ k. 1 ≤ k → (1 ≤ s .file) × (hasRecords r ≡ true) × (k ≤ recordCount r)) _ (s .number) n (λ y h. (some, has, file .within h)) (λ y h. (some, has, most)))
+
+      pub fit-record : (c : Command) → namedBy c (s .number) r ≤ recordCount r → Fit card (readRecord c s (fileAt card (s .file)))
+      unfolding readRecord fileAt
+      fit-record c most = fit-handed card _ (at-named c (namedBy c (s .number) r) most) _ _ _
+
+      pub fit-rewrite : (c : Command) («data» : List ℕ) → length «data» ≡ r .«record» → (isCyclic r ≡ false → namedBy c (s .number) r ≤ recordCount r) → Fit card (updateRecord c «data» s (fileAt card (s .file)))
+      unfolding updateRecord fileAt
+      fit-rewrite c «data» fits most =
+          on-pick (Fit card) _ _ _
+          (λ y. fit-done card _ (at-number 1 (records-some (length (card .files)) r own has)) _ _ (in-newest card sound (s .file) (file .belongs .inside) has «data» fits y))
+          (λ n. fit-done card _ (at-named c (namedBy c (s .number) r) (most n)) _ _ (in-record card sound (s .file) (file .belongs .inside) has «data» fits (namedBy c (s .number) r), tt))
+
+      fit-found : (format : Format) (ns : List ℕ) → length ns ≤ recordCount r → First (recordCount r) ns → Fit card (searched format s ns)
+      unfolding searched
+      fit-found format [] few first = fit-done card s good _ [] tt
+      fit-found format (n ∷ ns) few first =
+          fit-produced card (atRecord s n) (at-number n (first .1)) format _ (n ∷ ns) [] (omega (arith, records-few (length (card .files)) r own has)) tt
+
+      pub fit-search : (format : Format) (c : Command) («data» : List ℕ) → 1 ≤ namedBy c (s .number) r → namedBy c (s .number) r ≤ recordCount r → Fit card (search format c «data» s (fileAt card (s .file)))
+      unfolding search fileAt
+      fit-search format c «data» least most =
+          let content = part (card .files) (r .start) (r .size) in
+          fit-found format _ (found-few r content (c .p2) «data» (namedBy c (s .number) r) least most) (found-first r content (c .p2) «data» (namedBy c (s .number) r) least most)
+
+      pub fit-increase : (format : Format) («data» : List ℕ) → isCyclic r ≡ true → r .«record» ≤ 127 → length «data» ≤ r .«record» → Fit card (increase format «data» s (fileAt card (s .file)))
+      unfolding increase fileAt
+      fit-increase format «data» cyclic short few =
+          let content = part (card .files) (r .start) (r .size) in
+          let new = bytesOf (r .«record») (sum r content «data») in
+          let l = bytesOf-length (r .«record») (sum r content «data») in
+          fit-produced card (atRecord s 1) (at-number 1 (records-some (length (card .files)) r own has)) format _ (new ++ «data») _
+          (rw (length-append new «data», l) (omega arith))
+          (in-newest card sound (s .file) (file .belongs .inside) has new l cyclic)

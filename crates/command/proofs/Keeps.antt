@@ -1,0 +1,74 @@
+-- A command keeps its card sound, the scripts on trial, its session good, and what a take-back gives. Assumes nothing.
+use mathlib.Core.Path.{_≡_, refl, _∙_}
+use mathlib.Core.Bool.{Bool, true, false}
+use mathlib.Core.List.{List, [], _∷_}
+use Prim.Native.Nat.{ℕ, _+_, _≤_}
+use lib.ListN.{length}
+use Rattle.card.specs.Row.{Card}
+use Rattle.journal.specs.Entries.{usedBytes, scriptsOnTrial, room}
+use Rattle.journal.specs.Sound.{soundCard}
+use Rattle.journal.specs.Changes.{Write, write, perform, cost, takenBack}
+use Rattle.journal.proofs.Parts.{card-table, card-parts}
+use Rattle.journal.proofs.Written.{Writable, sound-writable, AllFit, fit-kept, write-lengths, write-scripts, write-writable, room-first, room-next}
+use Rattle.journal.proofs.Undone.{back-perform}
+use Rattle.journal.proofs.Kept.{forms-fit, perform-sound}
+use Rattle.session.specs.declared.Session.{Session}
+use Rattle.session.specs.Good.{Good}
+use Rattle.session.proofs.Good.{good-kept}
+use Rattle.command.specs.declared.Format.{Format}
+use Rattle.command.specs.declared.Command.{Command}
+use Rattle.command.specs.Outcomes.{Plan, failed}
+use Rattle.command.specs.Commands.{situation, planned, carriedOut}
+use Rattle.command.proofs.Rows.{rows-perform}
+use Rattle.command.proofs.Fit.{Fit}
+use Rattle.command.proofs.Planned.{planned-fit}
+use Rattle.command.proofs.Roomy.{planned-room}
+
+-- writes leave the scripts on trial
+pub perform-scripts : (ws : List Write) (c : Card) → AllFit ws c → Writable c → usedBytes (c .journal) + cost ws ≤ room (c .journal) → scriptsOnTrial (perform ws c .journal) ≡ scriptsOnTrial (c .journal)
+unfolding perform
+perform-scripts [] c fits ok left = refl
+perform-scripts (w ∷ ws) c fits ok left =
+    let first = room-first w ws c ok left in
+    perform-scripts ws (write w c) (fit-kept ws c (write w c) (write-lengths w c (fits .0)) (fits .1)) (write-writable w c (fits .0) ok first)
+    (room-next w ws c ok left (fits .0))
+    ∙ write-scripts w c (fits .0) ok first
+
+-- what holds between the commands of a script: a card before it is what a take-back gives
+pub record Holds (before : Card) (s : Session) (card : Card) : Type 0 where
+  pub sound : soundCard card ≡ true
+  pub trial : 1 ≤ scriptsOnTrial (card .journal)
+  pub good : Good (card .table) s
+  pub back : takenBack card ≡ before
+
+module _ (before : Card) (s : Session) (card : Card) (h : Holds before s card) where
+  abbrev pub Carries : Plan → Type 0
+  Carries p = Holds before (carriedOut p card .session) (carriedOut p card .card)
+
+  plan-holds : (p : Plan) → Fit card p → usedBytes (card .journal) + cost (p .writes) ≤ room (card .journal) → Carries p
+  unfolding carriedOut
+  plan-holds p fit left =
+      let ok = sound-writable card (h .sound) in
+      let fits = forms-fit (p .writes) card (fit .forms) in
+      let rows = rows-perform (p .writes) card (fit .forms) in
+      record {
+        sound = perform-sound (p .writes) card (h .sound) (fit .forms) left (h .trial);
+        trial = rw (perform-scripts (p .writes) card fits ok left) (h .trial);
+        good = good-kept (card .table) (perform (p .writes) card .table) (rows .count) (rows .alike) (p .session) (fit .good);
+        back = back-perform (p .writes) card fits ok left ∙ h .back;
+      }
+
+  pub command-holds : (format : Format) (domain : ℕ) (c : Command) («data» : List ℕ) → length «data» ≤ 255 → Carries (planned (situation format domain c «data» s card))
+  command-holds format domain c «data» brief =
+      plan-holds (planned (situation format domain c «data» s card))
+      (planned-fit format domain c «data» s card (card-table card (h .sound)) (h .good) brief)
+      (planned-room format domain c «data» s card (card-parts card (h .sound) .used))
+
+  pub failed-holds : (word : ℕ) → Carries (failed s word)
+  unfolding failed carriedOut perform
+  failed-holds word = h
+
+-- what holds of both is so whichever way a test goes
+pub both-ways : {A : Type 0} (P : A → Type 0) (b : Bool) (x y : A) → P x → P y → P (elim b [ true ↦ x | false ↦ y ])
+both-ways P true x y h g = h
+both-ways P false x y h g = g

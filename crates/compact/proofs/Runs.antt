@@ -1,0 +1,49 @@
+-- A compact script of bytes keeps its card sound, scripts on trial, its session good, and what a take-back gives. Assumes nothing.
+use mathlib.Core.List.{List}
+use Prim.Native.Nat.{ℕ, zero, suc, _+_, _≤_, _<_}
+use native.Mathlib.Omega.{arith}
+use lib.Dec.{ltb}
+use lib.ListN.{length, length-take}
+use Rattle.octets.specs.Bytes.{byte, part}
+use Rattle.card.specs.Row.{Card}
+use Rattle.session.specs.Session.{start}
+use Rattle.session.proofs.Owned.{on-pick}
+use Rattle.command.specs.declared.Format.the-variants.{Compact}
+use Rattle.command.specs.declared.Reading.{Reading}
+use Rattle.command.specs.Instructions.{carriesData}
+use Rattle.command.specs.Outcomes.{wordOf, goesOn}
+use Rattle.command.specs.Commands.{State, started, stepped}
+use Rattle.command.proofs.Keeps.{Holds, command-holds, both-ways}
+use Rattle.compact.specs.Compact.{dataBehind, broken, wholeAt, headedAt, readAt, placeAfter, stepAt, runFrom, run}
+
+module _ (script : List ℕ) (small : (i : ℕ) → byte script i < 256) where
+  few : (at : ℕ) → readAt script at .count ≤ 255
+  unfolding readAt headedAt wholeAt broken dataBehind
+  few at =
+      let b = small (at + 4) in
+      on-pick (λ (r : Reading). r .count ≤ 255) _ _ _
+      (λ y. on-pick (λ (r : Reading). r .count ≤ 255) _ _ _ (λ y. on-pick (λ (n : ℕ). n ≤ 255) (carriesData (byte script (at + 1))) (byte script (at + 4)) 0 (λ y. omega arith) (λ n. omega arith)) (λ n. omega arith))
+      (λ n. omega arith)
+
+  brief : (at : ℕ) → length (part script (readAt script at .from) (readAt script at .count)) ≤ 255
+  brief at = rw length-take (omega (arith, few at))
+
+  module _ (before : Card) (domain : ℕ) where
+    abbrev Kept : State → Type 0
+    Kept st = Holds before (st .step .session) (st .card)
+
+    step-holds : (at : ℕ) (st : State) → Kept st → Kept (stepAt script domain at st)
+    unfolding stepAt stepped
+    step-holds at st h = command-holds before (st .step .session) (st .card) h Compact domain (readAt script at .command) _ (brief at)
+
+    run-holds : (n at : ℕ) (st : State) → Kept st → Kept (runFrom n script domain at st)
+    unfolding runFrom
+    run-holds zero at st h = h
+    run-holds (suc n) at st h =
+        both-ways Kept (ltb at (length script)) _ st
+        (both-ways Kept (goesOn (wordOf (stepAt script domain at st .step .outcome))) _ _ (run-holds n (placeAfter (readAt script at)) (stepAt script domain at st) (step-holds at st h)) (step-holds at st h))
+        h
+
+  pub run-keeps : (before : Card) (application domain : ℕ) (card : Card) → Holds before (start application) card → Holds before (run script application domain card .step .session) (run script application domain card .card)
+  unfolding run started
+  run-keeps before application domain card h = run-holds before domain (length script) 0 (started application card) h

@@ -1,0 +1,83 @@
+-- An expanded script of bytes keeps its card sound, scripts on trial, its session good, and what a take-back gives. Assumes nothing.
+use mathlib.Core.Bool.{Bool, true, false}
+use mathlib.Core.List.{List}
+use Prim.Native.Nat.{ℕ, zero, suc, _+_, _≤_, _<_}
+use native.Mathlib.Decide.{decLt}
+use native.Mathlib.Omega.{arith}
+use lib.ListN.{length, length-take, List·getD-eq-default}
+use Rattle.octets.specs.Bytes.{byte, part}
+use Rattle.octets.proofs.Numbers.{byte-part}
+use Rattle.card.specs.Row.{Card}
+use Rattle.session.specs.Session.{start}
+use Rattle.session.proofs.Owned.{on-pick}
+use Rattle.command.specs.declared.Format.the-variants.{Expanded}
+use Rattle.command.specs.Outcomes.{wordOf, goesOn}
+use Rattle.command.specs.Commands.{State, started, stepped}
+use Rattle.command.proofs.Keeps.{Holds, Carries, command-holds, failed-holds, both-ways}
+use Rattle.expanded.specs.declared.Template.{Template}
+use Rattle.expanded.specs.declared.Template.the-variants.{Definite, Indefinite, Missing}
+use Rattle.expanded.specs.declared.Item.{Item}
+use Rattle.expanded.specs.declared.Item.the-variants.{Capdu, Bad, End}
+use Rattle.expanded.specs.Templates.{itemAt}
+use Rattle.expanded.specs.Capdu.{carried, capduCommand}
+use Rattle.expanded.specs.Expanded.{limited, Progress, answered, stepCapdu, stepBad, runFrom, begun, run}
+
+-- a C-APDU of bytes carries at most 255 of them
+module _ (script : List ℕ) (small : (i : ℕ) → byte script i < 256) where
+  part-small : (p n i : ℕ) → byte (part script p n) i < 256
+  part-small p n i =
+      elim (decLt i n) [
+        | yes l ↦ rw (byte-part script p n i l) (small (p + i))
+        | no g ↦ rw (List·getD-eq-default (part script p n) 0 {n = i} (rw length-take (omega arith))) (omega arith)
+      ]
+
+few : (capdu : List ℕ) → byte capdu 4 < 256 → carried capdu ≤ 255
+unfolding carried
+few capdu b = on-pick (λ (n : ℕ). n ≤ 255) _ (byte capdu 4) 0 (λ y. omega arith) (λ n. omega arith)
+
+brief : (capdu : List ℕ) → byte capdu 4 < 256 → length (part capdu 5 (carried capdu)) ≤ 255
+brief capdu b = rw length-take (omega (arith, few capdu b))
+
+-- a step
+module _ (before : Card) where
+  abbrev Kept : Progress → Type 0
+  Kept p = Holds before (p .state .step .session) (p .state .card)
+
+  answered-holds : (counts : Bool) (st : State) (kept r : List ℕ) → Holds before (st .step .session) (st .card) → Kept (answered counts st kept r)
+  unfolding answered
+  answered-holds counts st kept r h = on-pick Kept counts _ _ (λ y. h) (λ n. h)
+
+  capdu-holds : (definite : Bool) (domain : ℕ) (capdu : List ℕ) (p : Progress) → byte capdu 4 < 256 → Kept p → Kept (stepCapdu definite domain capdu p)
+  unfolding stepCapdu limited stepped capduCommand
+  capdu-holds definite domain capdu p b h =
+      let s = p .state .step .session in
+      let card = p .state .card in
+      answered-holds _ _ _ _
+      (on-pick (Carries before s card h) _ _ _ (λ y. failed-holds before s card h 0x6F00) (λ n. command-holds before s card h Expanded domain _ _ (brief capdu b)))
+
+  bad-holds : (code : ℕ) (p : Progress) → Kept p → Kept (stepBad code p)
+  unfolding stepBad
+  bad-holds code p h = h
+
+-- a script
+on-item : {A : Type 0} (P : A → Type 0) (item : Item) (f : ℕ → ℕ → A) (g : ℕ → A) (x : A) → ((from size : ℕ) → P (f from size)) → ((code : ℕ) → P (g code)) → P x → P (elim item [ Capdu from size ↦ f from size | Bad code ↦ g code | End ↦ x ])
+on-item P (Capdu from size) f g x h k l = h from size
+on-item P (Bad code) f g x h k l = k code
+on-item P End f g x h k l = l
+
+module _ (script : List ℕ) (small : (i : ℕ) → byte script i < 256) (before : Card) (domain : ℕ) (definite : Bool) where
+  run-holds : (n at end : ℕ) (p : Progress) → Kept before p → Kept before (runFrom n script domain definite at end p)
+  unfolding runFrom
+  run-holds zero at end p h = h
+  run-holds (suc n) at end p h =
+      on-item (Kept before) (itemAt script at end) _ _ p
+      (λ from size. let next = capdu-holds before definite domain (part script from size) p (part-small script small from size 4) h in
+      both-ways (Kept before) (goesOn (wordOf (stepCapdu definite domain (part script from size) p .state .step .outcome))) _ _ (run-holds n (from + size) end (stepCapdu definite domain (part script from size) p) next) next)
+      (λ code. bad-holds before code p h)
+      h
+
+pub run-keeps : (script : List ℕ) → ((i : ℕ) → byte script i < 256) → (before : Card) (template : Template) (application domain : ℕ) (card : Card) → Holds before (start application) card → Holds before (run template script application domain card .state .step .session) (run template script application domain card .state .card)
+unfolding run begun started
+run-keeps script small before (Definite at end) application domain card h = run-holds script small before domain true (length script) at end (begun application card) h
+run-keeps script small before (Indefinite at end) application domain card h = run-holds script small before domain false (length script) at end (begun application card) h
+run-keeps script small before Missing application domain card h = h
