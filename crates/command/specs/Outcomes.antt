@@ -27,7 +27,7 @@ abbrev pub bytesWait : ℕ → ℕ
 bytesWait n = 0x6100 + n
 
 -- the word of an outcome
-unfoldable pub wordOf : Outcome → ℕ
+abbrev pub wordOf : Outcome → ℕ
 wordOf (Well word) = word
 wordOf (FromFiles word place n) = word
 wordOf (FromWaiting word n) = word
@@ -41,14 +41,14 @@ dataOf (FromWaiting word n) files waiting = take n waiting
 dataOf (Error word) files waiting = []
 
 -- how many data bytes an outcome has
-unfoldable pub dataCount : Outcome → ℕ
+abbrev pub dataCount : Outcome → ℕ
 dataCount (Well word) = 0
 dataCount (FromFiles word place n) = n
 dataCount (FromWaiting word n) = n
 dataCount (Error word) = 0
 
 -- "9000, 6282, 6283 and 61xx go on; every other word stops the script."
-unfoldable pub goesOn : ℕ → Bool
+abbrev pub goesOn : ℕ → Bool
 goesOn word =
     eqb word normal
     || (eqb word endOfData || (eqb word selectedDeactivated || (leb 0x6100 word && leb word 0x61FF)))

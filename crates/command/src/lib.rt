@@ -1,5 +1,6 @@
 // One command, in its parsed form.
 pub mod checks;
+pub mod ends;
 pub mod instruction;
 pub mod records;
 pub mod search;

@@ -1,0 +1,55 @@
+// What an outcome stands for: the paper's word, whether the script goes on, and the data.
+use crate::Outcome;
+ghost use mathlib.Core.Path.{_≡_};
+ghost use Prim.Native.Nat.{_+_, _≤_};
+ghost use lib.ListN.{length, take};
+ghost use Rattle.octets.specs.Bytes.{part};
+ghost use Rattle.command.specs.Outcomes as spec;
+
+// The word of an outcome.
+pub fn word_of(o: Outcome) -> usize
+    ensures { λ w. ⌜ w ≡ spec.wordOf o ⌝ }
+{
+    match o {
+        Outcome::Well(word) => word,
+        Outcome::FromFiles(word, _, _) => word,
+        Outcome::FromWaiting(word, _) => word,
+        Outcome::Error(word) => word,
+    }
+}
+
+// How many data bytes it has.
+pub fn data_count(o: Outcome) -> usize
+    ensures { λ n. ⌜ n ≡ spec.dataCount o ⌝ }
+{
+    match o {
+        Outcome::Well(_) => 0,
+        Outcome::FromFiles(_, _, n) => n,
+        Outcome::FromWaiting(_, n) => n,
+        Outcome::Error(_) => 0,
+    }
+}
+
+// Whether a script goes on after a word.
+pub fn goes_on(word: usize) -> bool
+    ensures { λ b. ⌜ b ≡ spec.goesOn word ⌝ }
+{
+    (word == 0x9000)
+        | ((word == 0x6282) | ((word == 0x6283) | ((0x6100 <= word) & (word <= 0x61FF))))
+}
+
+// Data that are a part of the file memory.
+pub fn from_files<'f, 'w>(files: &'f [u8], waiting: &'w [u8], place: usize, n: usize) -> &'f [u8]
+    requires { ⌜ place + n ≤ length (now files) ⌝ }
+    ensures { λ d. ⌜ now d ≡ part (now (files .entry)) place n ⌝ }
+{
+    &files[place..place + n]
+}
+
+// Data that are the first waiting bytes.
+pub fn from_waiting<'f, 'w>(files: &'f [u8], waiting: &'w [u8], n: usize) -> &'w [u8]
+    requires { ⌜ n ≤ length (now waiting) ⌝ }
+    ensures { λ d. ⌜ now d ≡ take n (now (waiting .entry)) ⌝ }
+{
+    &waiting[..n]
+}
