@@ -59,6 +59,9 @@ pub record State : Type 0 where
   pub step : Step
   pub card : Card
 
+abbrev pub stateOf : Step → Card → State
+stateOf step card = record { step = step; card = card }
+
 -- "Each script starts afresh."
 unfoldable pub started : ℕ → Card → State
 started application card =

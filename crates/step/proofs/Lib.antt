@@ -1,0 +1,4 @@
+pub mod Plans
+pub mod Passed
+pub mod Sums
+pub mod Acts
