@@ -29,24 +29,24 @@ use Rattle.command.proofs.Order.{record-kind}
 use Rattle.step.specs.Decisions.{RecordFits, Fits, newestOf, updateChange, Passed, Ready}
 use Rattle.step.proofs.Plans.{AllHold}
 
--- a record lies inside its file
-module _ (r : Row) (some : 1 ≤ recordCount r) where
-  record-inside : (n : ℕ) → recordOffset r n + r .«record» ≤ r .size
-  unfolding recordOffset recordPlace
-  record-inside n = ends-inside (r .«record») _ (recordCount r) (r .size) (place-below (recordCount r) (r .newest) n some) (div-mul-le-self (r .size) (r .«record»))
+-- a record lies inside its file, and so does a new one
+record-inside : (r : Row) → 1 ≤ recordCount r → (n : ℕ) → recordOffset r n + r .«record» ≤ r .size
+unfolding recordOffset recordPlace
+record-inside r h n = ends-inside (r .«record») _ (recordCount r) (r .size) (place-below (recordCount r) (r .newest) n h) (div-mul-le-self (r .size) (r .«record»))
 
 pub newest-fits : (t files file : ℕ) (r : Row) → Recorded files r → placeOfNewest file < t → RecordFits t files (newestOf file r)
-unfolding newestOf oldestPlace recordPlace
+unfolding newestOf oldestPlace recordOffset recordPlace
 newest-fits t files file r has h =
     let p = place-below (recordCount r) (r .newest) (recordCount r) (has .counted) in
     let m = has .most in
     record {
       file = has .inside;
-      inside = ends-inside (r .«record») _ (recordCount r) (r .size) p (div-mul-le-self (r .size) (r .«record»));
+      inside = record-inside r (has .counted) (recordCount r);
       entry = h;
       byte = omega arith;
     }
 
+-- the offset and the data of a binary command lie inside the file
 offset-below : (i offset : ℕ) (r : Row) → i ≡ ins.readBinary → offsetFits i offset r ≡ true → offset < r .size
 offset-below i offset r e h = ltb-true offset (r .size) (rw e at h)
 

@@ -9,6 +9,9 @@ use Rattle.session.proofs.Good.{find-belongs}
 use Rattle.command.specs.Plans.{Situation}
 use Rattle.command.specs.Checks.{formalChecks, firstFailing, failWord, holds}
 use Rattle.command.specs.Commands.{situation, planned}
+use Rattle.step.specs.declared.plan.Change.the-variants.{Nothing}
+use Rattle.step.specs.declared.plan.Decision.{Decision}
+use Rattle.step.specs.Decisions.{planOf, Decided}
 use Rattle.step.proofs.Plans.{AllHold, formal-none, form-fails, behind, behind-select, behind-response, nothing-decided, decided-so}
 use Rattle.step.proofs.Passed.{table-sound, journal-parts}
 use Rattle.step.proofs.decide.decide.Statement.{statement}
@@ -32,14 +35,15 @@ worded : (c : tie.After-formal-word) → c .formal-word .result ≡ failWord (fi
 unfolding situation
 worded c = c .formal-word .ensures (whole (c .before .before .before .before .before)) refl refl refl
 
+-- what writes nothing is decided
+nothing : (s : tie.Start) (d : Decision) → planOf d (s .args .«data» .now) ≡ planned (whole s) → d .change ≡ Nothing → Decided (cardOf s) (s .args .«data» .now) (planned (whole s)) d
+nothing s d = nothing-decided (cardOf s) (s .args .«data» .now) (planned (whole s)) d (journal-parts (s .pre) .used)
+
 returns : tie.Need-returns
 unfolding situation
 returns c =
     let s = c .before .before .before .before .before .before .before in
-    let w = whole s in
-    nothing-decided (cardOf s) (s .args .«data» .now) (planned w) (c .failed .result) (journal-parts (s .pre) .used)
-    (c .failed .ensures .0 (s .args .«data» .now) ∙ form-fails w (worded (c .before .before)) (c .before .if1 .taken))
-    (c .failed .ensures .1)
+    nothing s _ (c .failed .ensures .0 (s .args .«data» .now) ∙ form-fails (whole s) (worded (c .before .before)) (c .before .if1 .taken)) (c .failed .ensures .1)
 
 -- the formal checks hold
 holding : (c : tie.Else1) → AllHold (whole (c .before .before .before .before .before .before)) formalChecks
@@ -64,9 +68,7 @@ unfolding situation
 returns-2 c =
     let s = c .before .before .before .before .before .before .before .before .before in
     let w = whole s in
-    nothing-decided (cardOf s) (s .args .«data» .now) (planned w) (c .decide-select .result) (journal-parts (s .pre) .used)
-    (c .decide-select .ensures .0 w refl refl refl refl refl refl ∙ behind-select w (c .before .if2 .taken) ∙ behind w (holding (c .before .before .before)))
-    (c .decide-select .ensures .1)
+    nothing s _ (c .decide-select .ensures .0 w refl refl refl refl refl refl ∙ behind-select w (c .before .if2 .taken) ∙ behind w (holding (c .before .before .before))) (c .decide-select .ensures .1)
 
 get-response-requires : tie.Need-get-response-requires
 get-response-requires c κs = search needs
@@ -76,9 +78,7 @@ unfolding situation
 returns-3 c =
     let s = c .before .before .before .before .before .before .before .before .before .before .before in
     let w = whole s in
-    nothing-decided (cardOf s) (s .args .«data» .now) (planned w) (c .get-response .result) (journal-parts (s .pre) .used)
-    (c .get-response .ensures .0 (s .args .«data» .now) ∙ behind-response w (c .before .if3 .taken) ∙ behind w (holding (c .before .before .before .before .before)))
-    (c .get-response .ensures .1)
+    nothing s _ (c .get-response .ensures .0 (s .args .«data» .now) ∙ behind-response w (c .before .if3 .taken) ∙ behind w (holding (c .before .before .before .before .before))) (c .get-response .ensures .1)
 
 decide-file-requires : tie.Need-decide-file-requires
 unfolding situation formalChecks holds
