@@ -1,5 +1,5 @@
 -- "Compact": reading a script command by command, running it, and the answer.
-use Prim.Native.Nat.{ℕ, zero, suc, _+_}
+use Prim.Native.Nat.{ℕ, zero, suc, _+_, _≤_, _<_}
 use mathlib.Core.Bool.{Bool, true, false, not, _&&_}
 use mathlib.Core.List.{List, _∷_, _++_}
 use lib.ListN.{length}
@@ -80,6 +80,15 @@ readAt script at = pick (leb (at + headerSize) (length script)) (headedAt script
 -- the place after it
 unfoldable pub placeAfter : Reading → ℕ
 placeAfter r = r .from + r .count
+
+-- what a reading at a place of a script of bytes promises: its data lie in the script, the next place is further on, and its numbers are bytes
+pub record ReadingFits (script : List ℕ) (at : ℕ) (r : Reading) : Type 0 where
+  pub inside : placeAfter r ≤ length script
+  pub further : at < placeAfter r
+  pub p1 : r .command .p1 < 256
+  pub p2 : r .command .p2 < 256
+  pub p3 : r .command .p3 < 256
+  pub brief : r .count < 256
 
 -- a script's state after the command that stands at a place
 unfoldable pub stepAt : List ℕ → ℕ → ℕ → State → State

@@ -1,1 +1,2 @@
 // Compact scripts.
+pub mod read;

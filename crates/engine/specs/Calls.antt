@@ -13,7 +13,7 @@ use Rattle.command.specs.Commands.{State}
 use Rattle.compact.specs.Compact as compact
 use Rattle.expanded.specs.Expanded as expanded
 use Rattle.expanded.specs.Expanded.{Progress}
-use Rattle.expanded.specs.declared.Template.{Template}
+use Rattle.expanded.specs.declared.template.Template.{Template}
 use Rattle.expanded.specs.Templates.{templateOf}
 use Rattle.engine.specs.declared.Answer.{Answer}
 use Rattle.engine.specs.Numbers.{Arguments, formatOf, firstGiven, runRefusals, takeBackRefusals, confirmRefusals}

@@ -10,8 +10,8 @@ use Rattle.journal.specs.Entries.{usedBytes, scriptsOnTrial, room, entryBytes}
 use Rattle.journal.specs.Sound.{mostScripts, soundCard}
 use Rattle.command.specs.declared.Format.{Format}
 use Rattle.command.specs.declared.Format.the-variants.{Compact, Expanded}
-use Rattle.expanded.specs.declared.Template.{Template}
-use Rattle.expanded.specs.declared.Template.the-variants.{Definite, Indefinite, Missing}
+use Rattle.expanded.specs.declared.template.Template.{Template}
+use Rattle.expanded.specs.declared.template.Template.the-variants.{Definite, Indefinite, Missing}
 use Rattle.expanded.specs.Templates.{templateOf}
 
 -- what a run is called with besides the card

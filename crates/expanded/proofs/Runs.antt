@@ -14,10 +14,10 @@ use Rattle.command.specs.declared.Format.the-variants.{Expanded}
 use Rattle.command.specs.Outcomes.{wordOf, goesOn}
 use Rattle.command.specs.Commands.{State, started, stepped}
 use Rattle.command.proofs.Keeps.{Holds, Carries, command-holds, failed-holds, both-ways}
-use Rattle.expanded.specs.declared.Template.{Template}
-use Rattle.expanded.specs.declared.Template.the-variants.{Definite, Indefinite, Missing}
-use Rattle.expanded.specs.declared.Item.{Item}
-use Rattle.expanded.specs.declared.Item.the-variants.{Capdu, Bad, End}
+use Rattle.expanded.specs.declared.template.Template.{Template}
+use Rattle.expanded.specs.declared.template.Template.the-variants.{Definite, Indefinite, Missing}
+use Rattle.expanded.specs.declared.template.Item.{Item}
+use Rattle.expanded.specs.declared.template.Item.the-variants.{Capdu, Bad, End}
 use Rattle.expanded.specs.Templates.{itemAt}
 use Rattle.expanded.specs.Capdu.{carried, capduCommand}
 use Rattle.expanded.specs.Expanded.{limited, Progress, answered, stepCapdu, stepBad, runFrom, begun, run}
@@ -35,8 +35,8 @@ few : (capdu : List ℕ) → byte capdu 4 < 256 → carried capdu ≤ 255
 unfolding carried
 few capdu b = on-pick (λ (n : ℕ). n ≤ 255) _ (byte capdu 4) 0 (λ y. omega arith) (λ n. omega arith)
 
-brief : (capdu : List ℕ) → byte capdu 4 < 256 → length (part capdu 5 (carried capdu)) ≤ 255
-brief capdu b = rw length-take (omega (arith, few capdu b))
+brief : (capdu : List ℕ) (from : ℕ) → byte capdu 4 < 256 → length (part capdu from (carried capdu)) ≤ 255
+brief capdu from b = rw length-take (omega (arith, few capdu b))
 
 -- a step
 module _ (before : Card) where
@@ -53,7 +53,7 @@ module _ (before : Card) where
       let s = p .state .step .session in
       let card = p .state .card in
       answered-holds _ _ _ _
-      (on-pick (Carries before s card h) _ _ _ (λ y. failed-holds before s card h 0x6F00) (λ n. command-holds before s card h Expanded domain _ _ (brief capdu b)))
+      (on-pick (Carries before s card h) _ _ _ (λ y. failed-holds before s card h 0x6F00) (λ n. command-holds before s card h Expanded domain _ _ (brief capdu (capduCommand capdu .from) b)))
 
   bad-holds : (code : ℕ) (p : Progress) → Kept p → Kept (stepBad code p)
   unfolding stepBad

@@ -14,10 +14,10 @@ use Rattle.command.specs.declared.Outcome.{Outcome}
 use Rattle.command.specs.declared.Step.{Step}
 use Rattle.command.specs.Outcomes.{Plan, failed, wordOf, dataOf, dataCount, goesOn}
 use Rattle.command.specs.Commands.{State, started, Moved, planned, situation, carriedOut, stepped}
-use Rattle.expanded.specs.declared.Template.{Template}
-use Rattle.expanded.specs.declared.Template.the-variants.{Definite, Indefinite, Missing}
-use Rattle.expanded.specs.declared.Item.{Item}
-use Rattle.expanded.specs.declared.Item.the-variants.{Capdu, Bad, End}
+use Rattle.expanded.specs.declared.template.Template.{Template}
+use Rattle.expanded.specs.declared.template.Template.the-variants.{Definite, Indefinite, Missing}
+use Rattle.expanded.specs.declared.template.Item.{Item}
+use Rattle.expanded.specs.declared.template.Item.the-variants.{Capdu, Bad, End}
 use Rattle.expanded.specs.Lengths.{lengthBytes, countBytes}
 use Rattle.expanded.specs.Templates.{itemAt}
 use Rattle.expanded.specs.Capdu.{capduCommand}

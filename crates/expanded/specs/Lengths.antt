@@ -1,11 +1,11 @@
 -- "Lengths: 00-7F, 81 80-FF, 82 0100-FFFF, shortest form only." One reader for the template and for C-APDUs, and one writer.
-use Prim.Native.Nat.{ℕ, _+_, _≤_}
+use Prim.Native.Nat.{ℕ, _+_, _≤_, _<_}
 use mathlib.Core.List.{List, [], _∷_}
 use lib.Dec.{leb, ltb, eqb}
 use Rattle.octets.specs.Choice.{pick}
 use Rattle.octets.specs.Bytes.{byte, numAt, bytes2}
-use Rattle.expanded.specs.declared.Length.{Length}
-use Rattle.expanded.specs.declared.Length.the-variants.{Found, Bad}
+use Rattle.expanded.specs.declared.lengths.Length.{Length}
+use Rattle.expanded.specs.declared.lengths.Length.the-variants.{Found, Bad}
 
 -- "Bad format TLV 90 01: 01 other tag; 03 no length byte, or too few after 81 or 82; 02 other length form, past the end, or below 4."
 abbrev pub otherTag : ℕ
@@ -40,6 +40,16 @@ lengthAt bs at end =
     (shortLength bs (at + 1) end)
     (pick (eqb (byte bs at) 0x82) (longLength bs (at + 1) end) (Bad wrongLength))))
     (Bad lengthMissing)
+
+-- what a length that was found promises: the place after it is further on and not past the end
+unfoldable pub LengthFits : ℕ → ℕ → Length → Type 0
+LengthFits at end (Found n place) = (at < place) × (place ≤ end) × (n < 65536)
+LengthFits at end (Bad code) = Unit
+
+-- the code that a length which was not found leaves
+unfoldable pub codeOf : Length → ℕ
+codeOf (Found n place) = 0
+codeOf (Bad code) = code
 
 -- the shortest form of a length
 unfoldable pub lengthBytes : ℕ → List ℕ

@@ -1,17 +1,17 @@
 -- "AA, length, value to the script's end; or AE 80, value, 00 00 as the last two bytes."
-use Prim.Native.Nat.{ℕ, _+_, _-_}
+use Prim.Native.Nat.{ℕ, _+_, _-_, _≤_, _<_}
 use mathlib.Core.Bool.{Bool, true, false, _&&_, _||_}
 use mathlib.Core.List.{List}
 use lib.ListN.{length}
 use lib.Dec.{leb, ltb, eqb}
 use Rattle.octets.specs.Choice.{pick}
 use Rattle.octets.specs.Bytes.{byte}
-use Rattle.expanded.specs.declared.Length.{Length}
-use Rattle.expanded.specs.declared.Length.the-variants as length-answers
-use Rattle.expanded.specs.declared.Template.{Template}
-use Rattle.expanded.specs.declared.Template.the-variants.{Definite, Indefinite, Missing}
-use Rattle.expanded.specs.declared.Item.{Item}
-use Rattle.expanded.specs.declared.Item.the-variants.{Capdu, Bad, End}
+use Rattle.expanded.specs.declared.lengths.Length.{Length}
+use Rattle.expanded.specs.declared.lengths.Length.the-variants as length-answers
+use Rattle.expanded.specs.declared.template.Template.{Template}
+use Rattle.expanded.specs.declared.template.Template.the-variants.{Definite, Indefinite, Missing}
+use Rattle.expanded.specs.declared.template.Item.{Item}
+use Rattle.expanded.specs.declared.template.Item.the-variants.{Capdu, Bad, End}
 use Rattle.expanded.specs.Lengths.{lengthAt, otherTag, wrongLength}
 
 -- a length that runs exactly to the end
@@ -33,6 +33,12 @@ templateOf script =
     (definite (lengthAt script 1 (length script)) (length script))
     (pick (eqb (byte script 0) 0xAE) (indefinite script (length script)) Missing)
 
+-- a template's value lies in the script
+unfoldable pub TemplateFits : ℕ → Template → Type 0
+TemplateFits script (Definite at end) = (at ≤ end) × (end ≤ script)
+TemplateFits script (Indefinite at end) = (at ≤ end) × (end ≤ script)
+TemplateFits script Missing = Unit
+
 -- "tag 22 or A2 is a C-APDU"
 unfoldable pub isCapduTag : ℕ → Bool
 isCapduTag tag = eqb tag 0x22 || eqb tag 0xA2
@@ -52,3 +58,9 @@ itemAt script at end =
     pick (ltb at end)
     (pick (isCapduTag (byte script at)) (valueAt (lengthAt script (at + 1) end) end) (Bad otherTag))
     End
+
+-- a C-APDU that stands there lies in the value, behind the place, and has its four bytes
+unfoldable pub ItemFits : ℕ → ℕ → Item → Type 0
+ItemFits at end (Capdu from size) = (at < from) × (from + size ≤ end) × (leastCapdu ≤ size)
+ItemFits at end (Bad code) = Unit
+ItemFits at end End = Unit

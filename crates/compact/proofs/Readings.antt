@@ -1,0 +1,56 @@
+-- Which reading stands at a place of a script, by how many bytes are left, and that it fits. Assumes nothing.
+use mathlib.Core.Path.{_≡_, _∙_}
+use mathlib.Core.List.{List}
+use Prim.Native.Nat.{ℕ, _+_, _≤_, _<_}
+use native.Mathlib.Omega.{arith}
+use lib.ListN.{length}
+use Rattle.octets.specs.Bytes.{byte}
+use Rattle.octets.proofs.Picks.{le-yes, le-no}
+use Rattle.command.specs.declared.Reading.{Reading}
+use Rattle.compact.specs.Compact.{dataBehind, broken, wholeAt, headedAt, readAt, placeAfter, ReadingFits}
+
+module _ (script : List ℕ) (at : ℕ) {r : Reading} where
+  pub no-header : length script < at + 5 → r ≡ broken script → r ≡ readAt script at
+  unfolding readAt
+  no-header h e = le-no (at + 5) (length script) (headedAt script at) h e
+
+  pub broken-fits : at < length script → r ≡ broken script → ReadingFits script at r
+  unfolding broken placeAfter
+  broken-fits h e =
+      rw e
+      (record {
+        inside = omega arith;
+        further = omega arith;
+        p1 = omega arith;
+        p2 = omega arith;
+        p3 = omega arith;
+        brief = omega arith;
+      })
+
+-- a header that is there, with the data that its instruction and its P3 ask for
+module _ (script : List ℕ) (at : ℕ) {i p3 count : ℕ} (ins : i ≡ byte script (at + 1)) (third : p3 ≡ byte script (at + 4)) (asked : count ≡ dataBehind i p3) (headed : at + 5 ≤ length script) where
+  behind : count ≡ dataBehind (byte script (at + 1)) (byte script (at + 4))
+  behind = asked ∙ (λ k. dataBehind (ins k) (third k))
+
+  pub no-data : {r : Reading} → length script < at + 5 + count → r ≡ broken script → r ≡ readAt script at
+  unfolding readAt headedAt
+  no-data h e = le-yes (at + 5) (length script) (broken script) headed (le-no _ _ _ (rw behind at h) e)
+
+  pub whole : {r : Reading} → at + 5 + count ≤ length script → r ≡ wholeAt script at i count → r ≡ readAt script at
+  unfolding readAt headedAt
+  whole h e =
+      le-yes (at + 5) (length script) (broken script) headed
+      (le-yes _ _ _ (rw behind at h) (e ∙ (λ k. wholeAt script at (ins k) (behind k))))
+
+pub whole-fits : (script : List ℕ) (at i count : ℕ) {r : Reading} → r ≡ wholeAt script at i count → at + 5 + count ≤ length script → count < 256 → ((k : ℕ) → byte script k < 256) → ReadingFits script at r
+unfolding wholeAt placeAfter
+whole-fits script at i count e h few bytes =
+    rw e
+    (record {
+      inside = h;
+      further = omega arith;
+      p1 = bytes (at + 2);
+      p2 = bytes (at + 3);
+      p3 = bytes (at + 4);
+      brief = few;
+    })

@@ -1,0 +1,94 @@
+// Reading a compact script: the command that stands at a place, without card or session.
+use command::Command;
+use command::Reading;
+use command::instruction::carries_data;
+use command::instruction::case_of;
+ghost use mathlib.Core.Path.{_≡_};
+ghost use Prim.Native.Nat.{_+_, _≤_, _<_};
+ghost use lib.ListN.{length};
+ghost use Rattle.compact.specs.Compact as spec;
+
+// "Five-byte headers"
+const HEADER_SIZE: usize = 5;
+
+// The case of a command: 04 and 44 with another P3 than 00 have the form of case 2.
+fn compact_case(i: usize, p2: usize, p3: usize) -> usize
+    ensures { λ n. ⌜ n ≡ spec.compactCase i p2 p3 ⌝ }
+{
+    let case = case_of(i, p2);
+    if (case == 1) & !(p3 == 0) {
+        return 2;
+    }
+    case
+}
+
+// How many data bytes stand behind a header.
+fn data_behind(i: usize, p3: usize) -> usize
+    ensures { λ n. ⌜ (n ≡ spec.dataBehind i p3) × (n ≤ p3) ⌝ }
+{
+    if carries_data(i) {
+        return p3;
+    }
+    0
+}
+
+// What stands for a command with too few bytes.
+fn broken(script: &[u8]) -> Reading
+    ensures { λ r. ⌜ r ≡ spec.broken (now (script .entry)) ⌝ }
+{
+    let command = Command {
+        whole: false,
+        class: 0,
+        instruction: 0,
+        p1: 0,
+        p2: 0,
+        p3: 0,
+        case: 0,
+        after: false,
+    };
+    Reading {
+        command,
+        from: script.len(),
+        count: 0,
+    }
+}
+
+// A command of which header and data are there.
+fn whole_at(script: &[u8], at: usize, i: usize, count: usize) -> Reading
+    requires { ⌜ (at + 5 + count ≤ length (now script)) ⌝ }
+    ensures { λ r. ⌜ r ≡ spec.wholeAt (now (script .entry)) at i count ⌝ }
+{
+    let p2 = octets::wide(script[at + 3]);
+    let p3 = octets::wide(script[at + 4]);
+    let command = Command {
+        whole: true,
+        class: octets::wide(script[at]),
+        instruction: i,
+        p1: octets::wide(script[at + 2]),
+        p2,
+        p3,
+        case: compact_case(i, p2, p3),
+        after: at + HEADER_SIZE + count < script.len(),
+    };
+    Reading {
+        command,
+        from: at + HEADER_SIZE,
+        count,
+    }
+}
+
+// The command that stands at a place of a script.
+pub fn read_at(script: &[u8], at: usize) -> Reading
+    requires { ⌜ at < length (now script) ⌝ }
+    ensures { λ r. ⌜ (r ≡ spec.readAt (now (script .entry)) at) × spec.ReadingFits (now (script .entry)) at r ⌝ }
+{
+    if script.len() - at < HEADER_SIZE {
+        return broken(script);
+    }
+    let i = octets::wide(script[at + 1]);
+    let count = data_behind(i, octets::wide(script[at + 4]));
+    if script.len() - at < HEADER_SIZE + count {
+        return broken(script);
+    }
+    whole_at(script, at, i, count)
+}
