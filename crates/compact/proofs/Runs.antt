@@ -32,7 +32,7 @@ module _ (script : List ℕ) (small : (i : ℕ) → byte script i < 256) where
     abbrev Kept : State → Type 0
     Kept st = Holds before (st .step .session) (st .card)
 
-    step-holds : (at : ℕ) (st : State) → Kept st → Kept (stepAt script domain at st)
+    pub step-holds : (at : ℕ) (st : State) → Kept st → Kept (stepAt script domain at st)
     unfolding stepAt stepped
     step-holds at st h = command-holds before (st .step .session) (st .card) h Compact domain (readAt script at .command) _ (brief at)
 

@@ -1,20 +1,17 @@
 -- "Compact": reading a script command by command, running it, and the answer.
 use Prim.Native.Nat.{ℕ, zero, suc, _+_, _≤_, _<_}
-use mathlib.Core.Bool.{Bool, true, false, not, _&&_}
+use mathlib.Core.Bool.{true, false, not, _&&_}
 use mathlib.Core.List.{List, _∷_, _++_}
 use lib.ListN.{length}
 use lib.Dec.{leb, ltb, eqb}
 use Rattle.octets.specs.Choice.{pick}
 use Rattle.octets.specs.Bytes.{byte, bytes2, part}
 use Rattle.card.specs.Row.{Card}
-use Rattle.session.specs.Session.{start}
 use Rattle.command.specs.declared.Format.the-variants.{Compact}
-use Rattle.command.specs.declared.Command.{Command}
 use Rattle.command.specs.declared.Reading.{Reading}
-use Rattle.command.specs.declared.Outcome.the-variants.{Well}
 use Rattle.command.specs.Instructions.{carriesData, caseOf}
-use Rattle.command.specs.Outcomes.{normal, wordOf, dataOf, goesOn}
-use Rattle.command.specs.Commands.{State, started, Moved, planned, situation, carriedOut, stepped}
+use Rattle.command.specs.Outcomes.{wordOf, dataOf, goesOn}
+use Rattle.command.specs.Commands.{State, started, planned, situation, carriedOut, stepped}
 
 -- "Five-byte headers"
 abbrev pub headerSize : ℕ

@@ -1,2 +1,3 @@
 // Compact scripts.
 pub mod read;
+pub mod run;

@@ -1,6 +1,5 @@
 -- What the two calls without a script give, case by case. Assumes nothing.
-use Prim.Native.Nat.{ℕ}
-use mathlib.Core.Path.{_≡_, refl}
+use mathlib.Core.Path.{_≡_}
 use mathlib.Core.Bool.{true, false}
 use mathlib.Core.List.{[]}
 use borrow.Author.Tests.{eq-eqb, ne-eqb}
@@ -10,7 +9,7 @@ use Rattle.journal.specs.Entries.{scriptsOnTrial}
 use Rattle.journal.specs.Sound.{soundCard}
 use Rattle.journal.specs.Changes.{takenBack, confirmed}
 use Rattle.engine.specs.Numbers.{firstGiven, notSound, takeBackRefusals, confirmRefusals}
-use Rattle.engine.specs.Calls.{Result, gives, numbered, unlessRefused, takeBack, confirm}
+use Rattle.engine.specs.Calls.{gives, numbered, unlessRefused, takeBack, confirm}
 
 module _ (c : Card) where
   pub back-unsound : soundCard c ≡ false → takeBack c ≡ gives (numbered 1) c []

@@ -2,7 +2,7 @@
 -- each run refused with number 5. What demand 2's rules give for the remaining calls, from the same start, is what the card gave: the
 -- same answers, and at the end the same table, files and journal, byte by byte."
 use Prim.Native.Nat.{ℕ, _<_}
-use mathlib.Core.Bool.{Bool, true, false, _||_}
+use mathlib.Core.Bool.{Bool, false, _||_}
 use mathlib.Core.Path.{_≡_}
 use mathlib.Core.List.{List, [], _∷_, map, reverse}
 use lib.Dec.{eqb}

@@ -2,13 +2,12 @@
 use Prim.Native.Nat.{ℕ}
 use Prim.Native.String.{String}
 use mathlib.Core.Path.{_≡_}
-use mathlib.Core.List.{List, [], _++_}
+use mathlib.Core.List.{List, _++_}
 use lib.ListN.{take, replicate}
 use Rattle.octets.specs.Bytes.{zeros}
 use Rattle.card.specs.Row.{Card, rowOf}
 use Rattle.journal.specs.Entries.{usedBytes}
 use Rattle.engine.specs.Hex.{hex}
-use Rattle.engine.specs.Numbers.{Arguments}
 use Rattle.engine.specs.Calls.{Result, run, takeBack}
 
 -- "Entries: 0 MF; 1 DF 7F10 in 0; 2 transparent 6F46 in 1, start 0, length 17; 3 linear 6F3A in 1, start 17, 3 records of 4; 4

@@ -1,6 +1,6 @@
 -- "C-APDU size 4 is case 1, 5 case 2, 5+Lc case 3, 6+Lc case 4 with Le 00; else 6700."
 use Prim.Native.Nat.{ℕ, _+_, _-_, _≤_, _<_}
-use mathlib.Core.Bool.{Bool, true, false, not, _&&_, _||_}
+use mathlib.Core.Bool.{false, _&&_}
 use mathlib.Core.List.{List}
 use lib.ListN.{length}
 use lib.Dec.{leb, eqb}

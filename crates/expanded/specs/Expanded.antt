@@ -5,18 +5,16 @@ use mathlib.Core.List.{List, [], _∷_, _++_}
 use lib.ListN.{length}
 use lib.Dec.{ltb, eqb}
 use Rattle.octets.specs.Choice.{pick}
-use Rattle.octets.specs.Bytes.{byte, bytes2, part}
+use Rattle.octets.specs.Bytes.{bytes2, part}
 use Rattle.card.specs.Row.{Card}
 use Rattle.session.specs.declared.Session.{Session}
 use Rattle.command.specs.declared.Format.the-variants.{Expanded}
 use Rattle.command.specs.declared.Reading.{Reading}
-use Rattle.command.specs.declared.Outcome.{Outcome}
 use Rattle.command.specs.declared.Step.{Step}
 use Rattle.command.specs.Outcomes.{Plan, failed, wordOf, dataOf, dataCount, goesOn}
-use Rattle.command.specs.Commands.{State, started, Moved, planned, situation, carriedOut, stepped}
+use Rattle.command.specs.Commands.{State, started, planned, situation, carriedOut, stepped}
 use Rattle.expanded.specs.declared.template.Template.{Template}
 use Rattle.expanded.specs.declared.template.Template.the-variants.{Definite, Indefinite, Missing}
-use Rattle.expanded.specs.declared.template.Item.{Item}
 use Rattle.expanded.specs.declared.template.Item.the-variants.{Capdu, Bad, End}
 use Rattle.expanded.specs.Lengths.{lengthBytes, countBytes}
 use Rattle.expanded.specs.Templates.{itemAt}

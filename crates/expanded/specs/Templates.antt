@@ -1,6 +1,6 @@
 -- "AA, length, value to the script's end; or AE 80, value, 00 00 as the last two bytes."
 use Prim.Native.Nat.{ℕ, _+_, _-_, _≤_, _<_}
-use mathlib.Core.Bool.{Bool, true, false, _&&_, _||_}
+use mathlib.Core.Bool.{Bool, _&&_, _||_}
 use mathlib.Core.List.{List}
 use lib.ListN.{length}
 use lib.Dec.{leb, ltb, eqb}

@@ -1,13 +1,12 @@
 -- What changes a card: a mark, a list of writes, a take-back, a confirmation.
 use Prim.Native.Nat.{ℕ, _+_, _-_}
-use mathlib.Core.Bool.{Bool, true, false}
 use mathlib.Core.List.{List, [], _∷_, _++_}
 use lib.ListN.{length}
-use lib.Dec.{eqb, leb}
+use lib.Dec.{eqb}
 use Rattle.octets.specs.Choice.{pick}
 use Rattle.octets.specs.Bytes.{part, overwrite, zeros}
 use Rattle.card.specs.Row.{Card}
-use Rattle.journal.specs.Entries.{Entry, entryOf, headSize, head, usedBytes, scriptsOnTrial, entryBytes, encode, holdsFileBytes, holdsTableByte, isMark, mark, entriesOf}
+use Rattle.journal.specs.Entries.{Entry, headSize, head, usedBytes, scriptsOnTrial, entryBytes, encode, holdsFileBytes, holdsTableByte, isMark, mark, entriesOf}
 
 -- the memories that a command writes
 pub data Memory : Type 0 where

@@ -1,0 +1,147 @@
+-- `compact::run::run` meets its contract: between two commands what is left from here is the whole run. Assumes nothing.
+use mathlib.Core.Path.{_≡_, refl, sym, ap, subst, _∙_}
+use mathlib.Core.Bool.{Bool, true, false}
+use mathlib.Core.List.{List}
+use Prim.Native.Nat.{ℕ, _+_, _-_, _≤_, _<_}
+use native.Mathlib.Omega.{arith}
+use lib.ListN.{length}
+use borrow.Author.Needs.{needs}
+use borrow.Author.Tests.{not-true, not-false}
+use Rattle.octets.specs.Bytes.{byte}
+use Rattle.card.specs.Row.{Card, lent}
+use Rattle.session.specs.declared.Session.{Session}
+use Rattle.command.specs.declared.Reading.{Reading}
+use Rattle.command.specs.declared.Outcome.the-variants.{Well}
+use Rattle.command.specs.declared.Step.{Step}
+use Rattle.command.specs.Outcomes.{wordOf, goesOn}
+use Rattle.command.specs.Commands.{started}
+use Rattle.compact.specs.Compact.{readAt, placeAfter}
+use Rattle.compact.proofs.Going.{Going, begins, ends, stops, goes}
+use Rattle.compact.proofs.run.run.Statement.{statement}
+use Rattle.compact.proofs.run.run.Tie as tie
+
+abbrev Inv-loop : tie.InvT-loop
+Inv-loop script application domain table₀ files₀ journal₀ step₀ at₀ table files journal step at =
+    (length table ≡ length table₀)
+    × (length files ≡ length files₀)
+    × (length journal ≡ length journal₀)
+    × Going script application domain (lent table₀ files₀ journal₀) (lent table files journal) step at
+
+abbrev μ-loop : tie.MeasureT-loop
+μ-loop script application domain table₀ files₀ journal₀ step₀ at₀ table files journal step at = length script - at
+
+start-requires : tie.Need-start-requires Inv-loop μ-loop
+start-requires c κs = search needs
+
+loop-holds : tie.Need-loop-holds Inv-loop μ-loop
+unfolding started
+loop-holds c =
+    let s = c .before .before .before .before .before in (
+      refl,
+      refl,
+      refl,
+      begins (s .args .script .now) (s .args .application) (s .args .domain) (lent (s .args .table .now) (s .args .files .now) (s .args .journal .now)) _
+          (ap (λ (k : Session). unfold started in record { session = k; outcome = Well 0x9000; count = 0 }) (c .start .ensures))
+          (s .pre .0) (s .pre .1) (s .pre .2) (s .pre .3),
+    )
+
+read-at-requires : tie.Need-read-at-requires Inv-loop μ-loop
+read-at-requires c κs = omega arith
+
+step-at-requires : tie.Need-step-at-requires Inv-loop μ-loop
+step-at-requires c κs =
+    let g = c .before .before .before .before .before .loop .inv .3 in
+    let few = g .counted in
+    let short = c .before .before .before .before .before .before .before .before .before .before .before .pre .4 in
+    (omega arith, g .holds .sound, g .holds .good, omega arith)
+
+word-of-requires : tie.Need-word-of-requires Inv-loop μ-loop
+word-of-requires c κs = search needs
+
+goes-on-requires : tie.Need-goes-on-requires Inv-loop μ-loop
+goes-on-requires c κs = search needs
+
+same-length : tie.Need-same-length Inv-loop μ-loop
+same-length c = omega arith
+
+same-length-2 : tie.Need-same-length-2 Inv-loop μ-loop
+same-length-2 c = omega arith
+
+same-length-3 : tie.Need-same-length-3 Inv-loop μ-loop
+same-length-3 c = omega arith
+
+returns : tie.Need-returns Inv-loop μ-loop
+returns c =
+    let s = c .before .before .before .before .before .before .before .before .before .before .before .before .before .before .before .before .before .before .before .before .before in
+    let l = c .before .before .before .before .before .before .before .before .before .before .before .before .before .before .before .loop in
+    stops (s .args .script .now) (s .args .application) (s .args .domain) _ _ (l .step) (l .at) (l .inv .3) (c .before .before .before .before .before .before .before .before .before .step-at .result) _ (omega arith)
+    (c .before .before .before .before .before .before .before .before .before .step-at .ensures)
+    (sym (ap goesOn (c .before .before .word-of .ensures)) ∙ sym (c .before .goes-on .ensures) ∙ not-true (c .before .goes-on .result) (c .if1 .taken))
+
+add-at : tie.Need-add-at Inv-loop μ-loop
+unfolding placeAfter
+add-at c =
+    let inside = c .before .before .before .before .before .before .before .before .before .before .before .before .before .before .read-at .ensures .1 .inside in
+    let short = c .before .before .before .before .before .before .before .before .before .before .before .before .before .before .before .before .before .before .before .before .before .before .pre .4 in
+    omega arith
+
+loop-less : tie.Need-loop-less Inv-loop μ-loop
+unfolding placeAfter
+loop-less c =
+    let fits = c .before .before .before .before .before .before .before .before .before .before .before .before .before .before .read-at .ensures .1 in
+    let inside = fits .inside in
+    let further = fits .further in
+    omega arith
+
+loop-again : tie.Need-loop-again Inv-loop μ-loop
+loop-again c =
+    let s = c .before .before .before .before .before .before .before .before .before .before .before .before .before .before .before .before .before .before .before .before .before .before in
+    let l = c .before .before .before .before .before .before .before .before .before .before .before .before .before .before .before .before .loop in
+    let r = c .before .before .before .before .before .before .before .before .before .before .before .before .before .before .read-at in
+    let script = s .args .script .now in (
+      omega arith,
+      omega arith,
+      omega arith,
+      goes script (s .args .application) (s .args .domain) _ _ (l .step) (l .at) (l .inv .3) (λ i. c .before .before .before .before .before .before .before .before .before .before .before .before .before .before .before .before .before .before .before .before .before .shared-slice-known .given i .fits)
+          (c .before .before .before .before .before .before .before .before .before .before .step-at .result) _ (r .result) (omega arith) (c .before .before .before .before .before .before .before .before .before .before .step-at .ensures) (r .ensures .0) (r .ensures .1)
+          (sym (ap goesOn (c .before .before .before .word-of .ensures)) ∙ sym (c .before .before .goes-on .ensures) ∙ not-false (c .before .before .goes-on .result) (c .before .if1 .left)),
+    )
+
+same-length-4 : tie.Need-same-length-4 Inv-loop μ-loop
+same-length-4 c = omega arith
+
+same-length-5 : tie.Need-same-length-5 Inv-loop μ-loop
+same-length-5 c = omega arith
+
+same-length-6 : tie.Need-same-length-6 Inv-loop μ-loop
+same-length-6 c = omega arith
+
+returns-2 : tie.Need-returns-2 Inv-loop μ-loop
+returns-2 c =
+    let s = c .before .before .before .before .before .before .before in
+    let l = c .before .loop in
+    ends (s .args .script .now) (s .args .application) (s .args .domain) _ _ (l .step) (l .at) (l .inv .3) (omega arith)
+
+pub run-spec : {M : Type 1} → statement M
+run-spec =
+    tie.close
+    (tie.spec
+    Inv-loop
+    μ-loop
+    start-requires
+    loop-holds
+    read-at-requires
+    step-at-requires
+    word-of-requires
+    goes-on-requires
+    same-length
+    same-length-2
+    same-length-3
+    returns
+    add-at
+    loop-less
+    loop-again
+    same-length-4
+    same-length-5
+    same-length-6
+    returns-2)

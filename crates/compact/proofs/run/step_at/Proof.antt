@@ -1,0 +1,96 @@
+-- `compact::run::step_at` meets its contract: the command that stands there, with its data, is run. Assumes nothing.
+use mathlib.Core.Path.{_≡_, sym, ap, subst, _∙_}
+use mathlib.Core.List.{List}
+use Prim.Native.Nat.{ℕ, _+_, _-_}
+use native.Mathlib.Nat.{add-sub-cancel-left}
+use native.Mathlib.Omega.{arith}
+use lib.ListN.{length, take, drop, length-take, length-drop}
+use borrow.Author.Needs.{needs}
+use Rattle.octets.specs.Bytes.{part}
+use Rattle.card.specs.Row.{Card, lent}
+use Rattle.command.specs.declared.Format.the-variants.{Compact}
+use Rattle.command.specs.declared.Reading.{Reading}
+use Rattle.command.specs.declared.Step.{Step}
+use Rattle.command.specs.Commands.{stateOf, situation, planned, carriedOut, stepped}
+use Rattle.compact.specs.Compact.{readAt, placeAfter, stepAt}
+use Rattle.compact.proofs.run.step_at.Statement.{statement}
+use Rattle.compact.proofs.run.step_at.Tie as tie
+
+told : (script : List ℕ) (domain at : ℕ) (before r : Step) (card after : Card) (reading : Reading) («data» : List ℕ) → reading ≡ readAt script at
+    → «data» ≡ part script (reading .from) (reading .count)
+    → stateOf r after ≡ stepped (stateOf before card) (carriedOut (planned (situation Compact domain (reading .command) «data» (before .session) card)) card)
+    → stateOf r after ≡ stepAt script domain at (stateOf before card)
+unfolding stepAt
+told script domain at before r card after reading «data» hr hd e =
+    subst (λ (k : Reading). stateOf r after ≡ stepped (stateOf before card) (carriedOut (planned (situation Compact domain (k .command) (part script (k .from) (k .count)) (before .session) card)) card)) hr
+    (subst (λ (d : List ℕ). stateOf r after ≡ stepped (stateOf before card) (carriedOut (planned (situation Compact domain (reading .command) d (before .session) card)) card)) hd e)
+
+-- the part that is lent is the data
+data-part : (script : List ℕ) (from n : ℕ) → take (from + n - from) (drop from script) ≡ part script from n
+data-part script from n = ap (λ (k : ℕ). take k (drop from script)) (add-sub-cancel-left from n)
+
+read-at-requires : tie.Need-read-at-requires
+read-at-requires c κs = search needs
+
+add-end : tie.Need-add-end
+unfolding placeAfter
+add-end c = let inside = c .before .read-at .ensures .1 .inside in omega arith
+
+sub-run-command : tie.Need-sub-run-command
+sub-run-command c = search needs
+
+part-run-command-start : tie.Need-part-run-command-start
+part-run-command-start c = search needs
+
+part-run-command-end : tie.Need-part-run-command-end
+unfolding placeAfter
+part-run-command-end c = let inside = c .before .before .read-at .ensures .1 .inside in omega arith
+
+run-command-requires : tie.Need-run-command-requires
+run-command-requires c κs =
+    let r = c .before .before .before .before .before .before in
+    let s = r .before .before .before .before .before in
+    let fits = r .read-at .ensures .1 in (
+      record {
+        sound = s .pre .1;
+        good = s .pre .2;
+        p1 = fits .p1;
+        p2 = fits .p2;
+        p3 = fits .p3;
+        brief = rw (data-part (s .args .script .now) (r .read-at .result .from) (r .read-at .result .count), length-take) (let b = fits .brief in omega arith);
+      },
+      s .pre .3,
+    )
+
+same-length : tie.Need-same-length
+same-length c = search needs
+
+same-length-2 : tie.Need-same-length-2
+same-length-2 c = search needs
+
+same-length-3 : tie.Need-same-length-3
+same-length-3 c = search needs
+
+returns : tie.Need-returns
+returns c =
+    let done = c .before .before .before .before .before .before in
+    let r = done .before .before .before .before .before .before .before in
+    let s = r .before .before .before .before .before in
+    told (s .args .script .now) (s .args .domain) (s .args .at) (s .args .before) (done .run-command .result)
+    (lent (s .args .table .now) (s .args .files .now) (s .args .journal .now)) _ (r .read-at .result) _ (r .read-at .ensures .0)
+    (data-part (s .args .script .now) (r .read-at .result .from) (r .read-at .result .count)) (done .run-command .ensures)
+
+pub step-at-spec : {M : Type 1} → statement M
+step-at-spec =
+    tie.close
+    (tie.spec
+    read-at-requires
+    add-end
+    sub-run-command
+    part-run-command-start
+    part-run-command-end
+    run-command-requires
+    same-length
+    same-length-2
+    same-length-3
+    returns)
