@@ -1,5 +1,5 @@
 -- "A command ends well, with or without data, or with an error word, changing nothing."
-use Prim.Native.Nat.{ℕ, _+_}
+use Prim.Native.Nat.{ℕ, _+_, _≤_}
 use mathlib.Core.Bool.{Bool, _&&_, _||_}
 use mathlib.Core.List.{List, []}
 use lib.ListN.{length, take}
@@ -46,6 +46,13 @@ dataCount (Well word) = 0
 dataCount (FromFiles word place n) = n
 dataCount (FromWaiting word n) = n
 dataCount (Error word) = 0
+
+-- the data of an outcome lie in a file memory of so many bytes, 256 at most, or in the 255 waiting bytes
+unfoldable pub OutcomeFits : ℕ → Outcome → Type 0
+OutcomeFits files (Well word) = Unit
+OutcomeFits files (FromFiles word place n) = (place + n ≤ files) × (n ≤ 256)
+OutcomeFits files (FromWaiting word n) = n ≤ 255
+OutcomeFits files (Error word) = Unit
 
 -- "9000, 6282, 6283 and 61xx go on; every other word stops the script."
 abbrev pub goesOn : ℕ → Bool

@@ -3,7 +3,7 @@ use crate::Outcome;
 ghost use mathlib.Core.Path.{_≡_};
 ghost use Prim.Native.Nat.{_+_, _≤_};
 ghost use lib.ListN.{length, take};
-ghost use Rattle.octets.specs.Bytes.{part};
+ghost use Rattle.octets.specs.Bytes.{part, overwrite};
 ghost use Rattle.command.specs.Outcomes as spec;
 
 // The word of an outcome.
@@ -52,4 +52,23 @@ pub fn from_waiting<'f, 'w>(files: &'f [u8], waiting: &'w [u8], n: usize) -> &'w
     ensures { λ d. ⌜ now d ≡ take n (now (waiting .entry)) ⌝ }
 {
     &waiting[..n]
+}
+
+// The data of an outcome are written at a place; what comes out is the place after them.
+pub fn put_data(out: &mut [u8], at: usize, o: Outcome, files: &[u8], waiting: &[u8]) -> usize
+    requires { ⌜ spec.OutcomeFits (length (now files)) o × (length (now waiting) ≡ 255) × (at + spec.dataCount o ≤ length (now out)) ⌝ }
+    ensures { λ r. ⌜ (now (out .exit) ≡ overwrite (now (out .entry)) at (spec.dataOf o (now (files .entry)) (now (waiting .entry)))) × (r ≡ at + spec.dataCount o) ⌝ }
+{
+    match o {
+        Outcome::Well(_) => at,
+        Outcome::FromFiles(_, place, n) => {
+            octets::copy(out, at, from_files(files, waiting, place, n));
+            at + n
+        }
+        Outcome::FromWaiting(_, n) => {
+            octets::copy(out, at, from_waiting(files, waiting, n));
+            at + n
+        }
+        Outcome::Error(_) => at,
+    }
 }
