@@ -45,10 +45,10 @@ other-way false x y h = refl
 
 module _ (script : List ℕ) (application domain : ℕ) (card₀ : Card) where
   -- nothing left
-  end : (n at : ℕ) (st : State) → length script ≤ at → runFrom n script domain at st ≡ st
+  pub nothing-left : (n at : ℕ) (st : State) → length script ≤ at → runFrom n script domain at st ≡ st
   unfolding runFrom
-  end zero at st h = refl
-  end (suc n) at st h = other-way (ltb at (length script)) _ st (le-ltb at (length script) h)
+  nothing-left zero at st h = refl
+  nothing-left (suc n) at st h = other-way (ltb at (length script)) _ st (le-ltb at (length script) h)
 
   -- this command stops the script
   stop : (n at : ℕ) (st : State) → at < length script → length script ≤ at + n
@@ -93,7 +93,7 @@ module _ (script : List ℕ) (application domain : ℕ) (card₀ : Card) where
 
   module _ (card : Card) (step : Step) (at : ℕ) (g : Going script application domain card₀ card step at) where
     pub ends : length script ≤ at → stateOf step card ≡ run script application domain card₀
-    ends h = sym (end (g .fuel) at (stateOf step card) h) ∙ g .whole
+    ends h = sym (nothing-left (g .fuel) at (stateOf step card) h) ∙ g .whole
 
     pub stops : (next : Step) (after : Card) → at < length script → stateOf next after ≡ stepAt script domain at (stateOf step card)
         → goesOn (wordOf (next .outcome)) ≡ false → stateOf next after ≡ run script application domain card₀

@@ -9,6 +9,7 @@ use Rattle.octets.specs.Bytes.{byte, bytes2, part}
 use Rattle.card.specs.Row.{Card}
 use Rattle.command.specs.declared.Format.the-variants.{Compact}
 use Rattle.command.specs.declared.Reading.{Reading}
+use Rattle.command.specs.declared.Step.{Step}
 use Rattle.command.specs.Instructions.{carriesData, caseOf}
 use Rattle.command.specs.Outcomes.{wordOf, dataOf, goesOn}
 use Rattle.command.specs.Commands.{State, started, planned, situation, carriedOut, stepped}
@@ -116,8 +117,6 @@ unfoldable pub run : List ℕ → ℕ → ℕ → Card → State
 run script application domain card = runFrom (length script) script domain 0 (started application card)
 
 -- "Answer: count, status, data of a last outgoing command."
-unfoldable pub answer : State → List ℕ
-answer st =
-    st .step .count
-    ∷ (bytes2 (wordOf (st .step .outcome))
-    ++ dataOf (st .step .outcome) (st .card .files) (st .step .session .waiting))
+unfoldable pub answer : Step → List ℕ → List ℕ
+answer step files =
+    step .count ∷ (bytes2 (wordOf (step .outcome)) ++ dataOf (step .outcome) files (step .session .waiting))

@@ -1,3 +1,4 @@
 // Compact scripts.
+pub mod answer;
 pub mod read;
 pub mod run;

@@ -48,7 +48,7 @@ unlessRefused number c response r = elim (eqb number 0) [ true ↦ r | false ↦
 unfoldable pub runScript : Format → Arguments → Card → Result
 runScript Compact a c =
     let st : State = compact.run (a .script) (a .application) (a .domain) c in
-    accepted st (compact.answer st) (a .response)
+    accepted st (compact.answer (st .step) (st .card .files)) (a .response)
 runScript Expanded a c =
     let template : Template = templateOf (a .script) in
     let p : Progress = expanded.run template (a .script) (a .application) (a .domain) c in

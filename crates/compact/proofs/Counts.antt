@@ -1,0 +1,64 @@
+-- "Five-byte headers": a script of n bytes has at most n / 5 + 1 commands, so that the count is a byte. Assumes nothing.
+use mathlib.Core.Path.{_≡_, refl, ap, subst, sym}
+use mathlib.Core.Bool.{Bool, true, false}
+use mathlib.Core.List.{List}
+use Prim.Native.Nat.{ℕ, zero, suc, _+_, _*_, _≤_, _<_}
+use native.Mathlib.Omega.{arith}
+use lib.Dec.{leb, ltb}
+use lib.ListN.{length}
+use borrow.Author.Tests.{leb-true, leb-false, ltb-true}
+use Rattle.card.specs.Row.{Card}
+use Rattle.session.proofs.Owned.{on-pick}
+use Rattle.command.specs.declared.Reading.{Reading}
+use Rattle.command.specs.Outcomes.{wordOf, goesOn}
+use Rattle.command.specs.Commands.{State, started, stepped}
+use Rattle.command.proofs.Keeps.{both-ways}
+use Rattle.compact.specs.Compact.{headerSize, broken, wholeAt, headedAt, readAt, placeAfter, stepAt, runFrom, run}
+use Rattle.compact.proofs.Going.{nothing-left}
+
+either-way : {A : Type 0} (P : A → Type 0) (b : Bool) (x y : A) → (b ≡ true → P x) → (b ≡ false → P y) → P (elim b [ true ↦ x | false ↦ y ])
+either-way P true x y h g = h refl
+either-way P false x y h g = g refl
+
+module _ (script : List ℕ) (application domain : ℕ) (card : Card) where
+  -- the place after a command is inside the script, and at its end where the command takes fewer than five bytes
+  pub record Behind (at : ℕ) (r : Reading) : Type 0 where
+    pub inside : placeAfter r ≤ length script
+    pub last : placeAfter r < at + headerSize → length script ≤ placeAfter r
+
+  at-end : (at : ℕ) → Behind at (broken script)
+  unfolding broken placeAfter
+  at-end at = record { inside = omega arith; last = λ h. omega arith }
+
+  behind : (at : ℕ) → Behind at (readAt script at)
+  unfolding readAt headedAt wholeAt placeAfter
+  behind at =
+      on-pick (Behind at) _ _ _
+      (λ y. on-pick (Behind at) _ _ _ (λ z. record { inside = leb-true _ _ z; last = λ h. absurd (omega arith) }) (λ n. at-end at))
+      (λ n. at-end at)
+
+  abbrev Few : State → Type 0
+  Few st = 5 * st .step .count ≤ length script + 5
+
+  -- after one command more, where it holds for what is left
+  next-few : (n at : ℕ) (next : State) → 5 * next .step .count ≤ at + 5 → at < length script
+      → ((k : ℕ) (st : State) → k ≤ length script → 5 * st .step .count ≤ k → Few (runFrom n script domain k st))
+      → (b : Bool) → leb (at + 5) (placeAfter (readAt script at)) ≡ b → Few (runFrom n script domain (placeAfter (readAt script at)) next)
+  next-few n at next few before rest true e = rest _ next (behind at .inside) (omega (arith, leb-true (at + 5) (placeAfter (readAt script at)) e))
+  next-few n at next few before rest false e =
+      subst Few (sym (nothing-left script application domain card n _ next (behind at .last (leb-false (at + 5) (placeAfter (readAt script at)) e)))) (omega arith)
+
+  run-few : (n at : ℕ) (st : State) → at ≤ length script → 5 * st .step .count ≤ at → Few (runFrom n script domain at st)
+  unfolding runFrom stepAt stepped
+  run-few zero at st inside few = omega arith
+  run-few (suc n) at st inside few =
+      either-way Few (ltb at (length script)) _ st
+      (λ y.
+        both-ways Few (goesOn (wordOf (stepAt script domain at st .step .outcome))) _ _
+        (next-few n at (stepAt script domain at st) (omega arith) (ltb-true at (length script) y) (run-few n) _ refl)
+        (omega arith))
+      (λ y. omega arith)
+
+  pub count-byte : length script ≤ 1024 → run script application domain card .step .count < 256
+  unfolding run started
+  count-byte short = let few = run-few (length script) 0 (started application card) (omega arith) (omega arith) in omega arith

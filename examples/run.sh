@@ -1,0 +1,9 @@
+#!/usr/bin/env bash
+# Builds the C example, runs it, and holds what it prints to fleet.expected.
+set -euo pipefail
+cd "$(dirname "${BASH_SOURCE[0]}")"
+out=../target/examples
+mkdir -p "$out"
+../second/build.sh "$out/fleet" fleet.c
+"$out/fleet" | tee "$out/fleet.stdout"
+cmp "$out/fleet.stdout" fleet.expected
