@@ -54,9 +54,9 @@ module _ (script : List ℕ) (application domain : ℕ) (card : Card) where
   run-few (suc n) at st inside few =
       either-way Few (ltb at (length script)) _ st
       (λ y.
-        both-ways Few (goesOn (wordOf (stepAt script domain at st .step .outcome))) _ _
-        (next-few n at (stepAt script domain at st) (omega arith) (ltb-true at (length script) y) (run-few n) _ refl)
-        (omega arith))
+      both-ways Few (goesOn (wordOf (stepAt script domain at st .step .outcome))) _ _
+      (next-few n at (stepAt script domain at st) (omega arith) (ltb-true at (length script) y) (run-few n) _ refl)
+      (omega arith))
       (λ y. omega arith)
 
   pub count-byte : length script ≤ 1024 → run script application domain card .step .count < 256

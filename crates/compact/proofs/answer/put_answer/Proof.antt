@@ -30,8 +30,7 @@ same-length c = search needs
 returns : tie.Need-returns
 returns c =
     let s = c .before .before .before .before .before .before .before .before .before .before .before .before .before .before .before .before .before .before .before in
-    let h : length (s .args .step .session .waiting) ≡ 255 = search needs in
-    (
+    let h : length (s .args .step .session .waiting) ≡ 255 = search needs in (
       answer-steps (s .args .step) (s .args .files .now) (s .pre .0) h (s .args .response .now) _ _ _ _ (s .pre .2)
           (c .before .before .before .before .before .before .before .before .before .before .before .before .fill .ensures)
           (c .before .before .before .before .before .before .before .before .word-of .ensures)
