@@ -45,7 +45,7 @@ module _ (before : Card) (s : Session) (card : Card) (h : Holds before s card) w
   abbrev pub Carries : Plan → Type 0
   Carries p = Holds before (carriedOut p card .session) (carriedOut p card .card)
 
-  plan-holds : (p : Plan) → Fit card p → usedBytes (card .journal) + cost (p .writes) ≤ room (card .journal) → Carries p
+  plan-holds : {c : Command} (p : Plan) → Fit card c p → usedBytes (card .journal) + cost (p .writes) ≤ room (card .journal) → Carries p
   unfolding carriedOut
   plan-holds p fit left =
       let ok = sound-writable card (h .sound) in

@@ -10,4 +10,5 @@ pub mod Fit
 pub mod Planned
 pub mod Roomy
 pub mod Keeps
+pub mod Handed
 pub mod Errors

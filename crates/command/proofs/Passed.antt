@@ -3,11 +3,11 @@ use mathlib.Core.Path.{_≡_, refl}
 use mathlib.Core.Bool.{Bool, true, false, not, _&&_, _||_}
 use mathlib.Core.List.{List, [], _∷_, _++_}
 use mathlib.Core.Option.{Option, none, some}
-use Prim.Native.Nat.{ℕ, _+_, _≤_}
+use Prim.Native.Nat.{ℕ, _+_, _≤_, _<_}
 use native.Mathlib.Omega.{arith}
 use lib.Dec.{leb, eqb}
 use lib.ListN.{length}
-use borrow.Author.Tests.{leb-true, eqb-true, eqb-false, not-true}
+use borrow.Author.Tests.{leb-true, ltb-true, eqb-true, eqb-false, not-true}
 use Rattle.octets.specs.Choice.{pick}
 use Rattle.octets.proofs.Picks.{and-left, and-right, pick-false}
 use Rattle.card.specs.declared.Row.{Row}
@@ -17,7 +17,7 @@ use Rattle.command.specs.declared.Command.{Command}
 use Rattle.command.specs.Instructions.{carriesData, caseOf, isRecord}
 use Rattle.command.specs.Files.{hasRecord}
 use Rattle.command.specs.Plans.{Situation, namedBy}
-use Rattle.command.specs.Checks.{Check, wrongCase, noFile, wrongKind, noRecord, wrongLength, journalFull, formalChecks, selectChecks, responseChecks, boundChecks, fileChecks, laterChecks, order, caseFits, kindFits, recordFits, lengthFits, holds, firstFailing}
+use Rattle.command.specs.Checks.{Check, wrongCase, noFile, wrongKind, offsetOutside, noRecord, wrongLength, journalFull, formalChecks, selectChecks, responseChecks, boundChecks, fileChecks, laterChecks, order, caseFits, kindFits, offsetFits, recordFits, lengthFits, holds, firstFailing}
 
 abbrev pub AllHold : Situation → List Check → Type 0
 AllHold w [] = Unit {0}
@@ -40,14 +40,15 @@ pub record Passed (w : Situation) : Type 0 where
   pub case : holds w wrongCase ≡ true
   pub file : holds w noFile ≡ true
   pub kind : holds w wrongKind ≡ true
+  pub offset : holds w offsetOutside ≡ true
   pub «record» : holds w noRecord ≡ true
   pub length : holds w wrongLength ≡ true
   pub journal : holds w journalFull ≡ true
 
 all-passed : (w : Situation) → AllHold w (formalChecks ++ fileChecks) → Passed w
 unfolding formalChecks fileChecks boundChecks
-all-passed w (_, (_, (_, (_, (case, (_, (_, (file, (kind, (_, (_, (_, (_, (named, (long, (_, (journal, _))))))))))))))))) =
-    record { case = case; file = file; kind = kind; «record» = named; length = long; journal = journal }
+all-passed w (_, (_, (_, (_, (case, (_, (_, (file, (kind, (_, (_, (_, (offset, (named, (long, (_, (journal, _))))))))))))))))) =
+    record { case = case; file = file; kind = kind; offset = offset; «record» = named; length = long; journal = journal }
 
 pub passed : (w : Situation) (i : ℕ) → eqb i 0xA4 ≡ false → eqb i 0xC0 ≡ false → firstFailing w (order i) ≡ none → Passed w
 unfolding order laterChecks
@@ -63,13 +64,16 @@ pub data-some : (c : Command) (lc : ℕ) → carriesData (c .instruction) ≡ tr
 unfolding caseFits
 data-some c lc y h = some-data (carriesData (c .instruction)) lc y (and-right (eqb (c .case) (caseOf (c .instruction) (c .p2))) _ h)
 
--- kinds and lengths
+-- kinds, offsets and lengths
 module _ (i : ℕ) (r : Row) where
   pub kind-increased : i ≡ 0x32 → kindFits i r ≡ true → (isCyclic r ≡ true) × (r .«record» ≤ 127)
   unfolding kindFits pick
   kind-increased e h =
       let k = rw e at h in
       (and-left _ _ k, leb-true (r .«record») 127 (and-right (isCyclic r) _ k))
+
+  pub offset-read : (offset : ℕ) → i ≡ 0xB0 → offsetFits i offset r ≡ true → offset < r .size
+  offset-read offset e h = ltb-true offset (r .size) (rw e at h)
 
   module _ (offset p3 lc : ℕ) (h : lengthFits i offset p3 lc r ≡ true) where
     pub length-binary : i ≡ 0xD6 → offset + lc ≤ r .size

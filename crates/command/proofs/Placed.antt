@@ -1,4 +1,4 @@
--- The writes of a command on its file are of a sound form where they go: in the file, at a record, at the oldest place, and at the state. Assumes nothing.
+-- The writes of a command on its file are of a sound form where they go: in the file, at a record, at the oldest place, and at the state; and its records lie in the file memory. Assumes nothing.
 use mathlib.Core.Path.{_≡_}
 use mathlib.Core.Bool.{true}
 use mathlib.Core.List.{List, [], _∷_}
@@ -50,34 +50,43 @@ module _ (card : Card) (sound : soundTable (card .table) (card .files) ≡ true)
   unfolding kindFor formSound tableByteSound pick
   in-state file v ok = in-entry 10 v (omega arith) (and-both _ _ file ok)
 
-  -- a record of the file, and its new record with the place that becomes newest
-  module _ (has : hasRecords r ≡ true) (new : List ℕ) (fits : length new ≡ r .«record») where
-    place-inside : (p : ℕ) → p < recordCount r → r .«record» * p + length new ≤ r .size
-    place-inside p l =
-        let whole = records-whole (length (card .files)) r own has in
-        rw fits (ends-inside (r .«record») p (recordCount r) (r .size) l (omega arith))
-
-    at-place : (p : ℕ) → p < recordCount r → FormSound (writeIn (fileAt card e) (r .«record» * p) new) card
-    at-place p l =
-        let some = record-some (length (card .files)) r own has in
-        let short = record-short (length (card .files)) r own has in
-        in-file (records-file r has) (r .«record» * p) new (omega arith) (omega arith) (place-inside p l)
-
+  -- a record of the file
+  module _ (has : hasRecords r ≡ true) where
     below : (k : ℕ) → recordPlace r k < recordCount r
     unfolding recordPlace
     below k = place-below (recordCount r) (r .newest) k (records-some (length (card .files)) r own has)
 
-    pub in-record : (k : ℕ) → FormSound (writeIn (fileAt card e) (recordOffset r k) new) card
-    unfolding recordOffset
-    in-record k = at-place (recordPlace r k) (below k)
+    place-inside : (p : ℕ) → p < recordCount r → r .«record» * p + r .«record» ≤ r .size
+    place-inside p l =
+        let whole = records-whole (length (card .files)) r own has in
+        ends-inside (r .«record») p (recordCount r) (r .size) l (omega arith)
 
-    pub in-newest : isCyclic r ≡ true → AllForms (newRecord (fileAt card e) new) card
-    unfolding newRecord fileAt oldestPlace kindFor formSound pick
-    in-newest cyclic = (
-      at-place (oldestPlace r) (below (recordCount r)),
-      (
-        in-entry 9 (oldestPlace r) (omega arith)
-            (newest-byte r (oldestPlace r) cyclic (record-some (length (card .files)) r own has) (below (recordCount r))),
-        tt,
-      ),
-    )
+    pub record-inside : (k : ℕ) → r .start + recordOffset r k + r .«record» ≤ length (card .files)
+    unfolding recordOffset
+    record-inside k =
+        let inside = file-inside (length (card .files)) r own (records-file r has) in
+        let within = place-inside (recordPlace r k) (below k) in
+        omega arith
+
+    -- one that is written, and a new one with the place that becomes newest
+    module _ (new : List ℕ) (fits : length new ≡ r .«record») where
+      at-place : (p : ℕ) → p < recordCount r → FormSound (writeIn (fileAt card e) (r .«record» * p) new) card
+      at-place p l =
+          let some = record-some (length (card .files)) r own has in
+          let short = record-short (length (card .files)) r own has in
+          in-file (records-file r has) (r .«record» * p) new (omega arith) (omega arith) (rw fits (place-inside p l))
+
+      pub in-record : (k : ℕ) → FormSound (writeIn (fileAt card e) (recordOffset r k) new) card
+      unfolding recordOffset
+      in-record k = at-place (recordPlace r k) (below k)
+
+      pub in-newest : isCyclic r ≡ true → AllForms (newRecord (fileAt card e) new) card
+      unfolding newRecord fileAt oldestPlace kindFor formSound pick
+      in-newest cyclic = (
+        at-place (oldestPlace r) (below (recordCount r)),
+        (
+          in-entry 9 (oldestPlace r) (omega arith)
+              (newest-byte r (oldestPlace r) cyclic (record-some (length (card .files)) r own has) (below (recordCount r))),
+          tt,
+        ),
+      )
