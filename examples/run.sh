@@ -6,4 +6,4 @@ out=../target/examples
 mkdir -p "$out"
 ../second/build.sh "$out/fleet" fleet.c
 "$out/fleet" | tee "$out/fleet.stdout"
-cmp "$out/fleet.stdout" fleet.expected
+diff fleet.expected "$out/fleet.stdout"

@@ -20,9 +20,9 @@
  *   RFM_COUNT   commands run, with the one that stopped the script
  *   RFM_LENGTH  bytes of the answer, at the start of the response memory
  *
- * They are tested in this order: 1 to 6 by a run, 1 and 7 by a take-back, 1 by
- * a confirmation. Any number but 0 comes with count 0 and length 0, and no lent
- * byte has changed. */
+ * The numbers are tested in this order: 1 to 6 by a run, 1 and 7 by a take-back,
+ * 1 by a confirmation. Any number but 0 comes with count 0 and length 0, and no
+ * lent byte has changed. */
 #ifndef RFM_H
 #define RFM_H
 

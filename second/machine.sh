@@ -1,9 +1,10 @@
 # Sourced by the scripts that link the library with C or run what the kit compiles. The kit compiles for x86-64; on
 # an Arm machine a cross compiler links that code and the kit's emulator runs it, and only this file knows.
-root=$(cd "$(dirname "${BASH_SOURCE[0]}")/.." && pwd)
+root=$(dirname "$(dirname "$(readlink -f "${BASH_SOURCE[0]}")")")
 kit=$(rt doc)
 kit=${kit%/docs/*}
 
+# The compiler with its Debian packages, and what runs its programs.
 case $(uname -m) in
 aarch64)
     compiler=(x86_64-linux-gnu-gcc gcc-x86-64-linux-gnu libc6-dev-amd64-cross)
@@ -21,32 +22,33 @@ need() {
         { apt-get update -qq && DEBIAN_FRONTEND=noninteractive apt-get install -y -qq "${@:2}"; } > /dev/null
 }
 
-# Has rt make a file at the repository root, unless no crate has changed since: made FILE WORD..
-made() {
-    local began said
-    if [ ! -e "$root/$1" ] || [ -n "$(find "$root"/crates* "$kit/KIT-ID" -newercm "$root/$1" -print -quit)" ]; then
+# Has rt make a file of the repository, unless nothing has changed since it was made: fresh FILE WORD..
+# The file gets the time at which its making began, so that a change meanwhile counts.
+fresh() {
+    local file=$root/$1 began said
+    if [ ! -e "$file" ] || [ -n "$(find "$root"/crates* "$kit/KIT-ID" -newercm "$file" -print -quit)" ]; then
         began=$(date +%s.%N)
         said=$(cd "$root" && rt "${@:2}" 2>&1 < /dev/null) || { printf '%s\n' "$said" "not built: $1" >&2; return 1; }
-        touch -cd "@$began" "$root/$1"
+        touch -cd "@$began" "$file"
     fi
 }
 
 # Compiles C sources and links them with the proved library: link OUT SOURCE..
 # RFM_ARCHIVE names another archive to link with, such as an earlier one to compare with.
 link() {
-    [ -n "${RFM_ARCHIVE:-}" ] || made target/staticlib/librfm.a staticlib rfm
+    local archive=${RFM_ARCHIVE:-$root/target/staticlib/librfm.a}
+    [ -n "${RFM_ARCHIVE:-}" ] || fresh target/staticlib/librfm.a staticlib rfm
     need "${compiler[@]}"
-    "${compiler[0]}" -std=c11 -Wall -Wextra -O2 -static -I "$root/include" -o "$@" \
-        "${RFM_ARCHIVE:-$root/target/staticlib/librfm.a}"
+    "${compiler[0]}" -std=c11 -Wall -Wextra -O2 -static -I "$root/include" -o "$@" "$archive"
 }
 
-# Runs a linked program: run PROGRAM ARGUMENT..
+# Runs an x86-64 program: run PROGRAM ARGUMENT..
 run() { ${emulator:+"$emulator"} "$@"; }
 
-# Runs a linked program and writes a line with the address of each instruction to a file: trace FILE PROGRAM ARGUMENT..
+# Runs one and writes a line with the address of each instruction to a file: trace FILE PROGRAM ARGUMENT..
 trace() {
     local emulator=${emulator:-qemu-x86_64} one=-one-insn-per-tb
     need "$emulator" qemu-user
-    "$emulator" -help | grep -q -e "$one" || one=-singlestep # its name before version 8.1
+    case $("$emulator" -help) in *"$one"*) ;; *) one=-singlestep ;; esac # its name before version 8.1
     "$emulator" "$one" -d exec,nochain -D "$@"
 }

@@ -1,11 +1,13 @@
 -- A search for the first entry, entry by entry, and the way up to the root, step by step. Assumes nothing.
-use mathlib.Core.Path.{_≡_, refl, sym, _∙_}
-use mathlib.Core.Bool.{Bool, true, false, _&&_}
+use mathlib.Core.Path.{_≡_, refl, sym, ap, _∙_}
+use mathlib.Core.Bool.{Bool, true, false, false≢true, _&&_}
 use mathlib.Core.List.{List}
 use mathlib.Core.Logic.{_⊎_, inl, inr, ⊎-elim}
 use Prim.Native.Nat.{ℕ, zero, suc, _+_, _-_, _≤_, _<_}
 use native.Mathlib.Nat.{le-refl}
 use native.Mathlib.Omega.{arith}
+use lib.Dec.{eqb}
+use borrow.Author.Tests.{eq-eqb, ne-eqb}
 use Rattle.octets.proofs.Picks.{and-left, and-right}
 use Rattle.card.specs.declared.Row.{Row}
 use Rattle.card.specs.declared.tree.Found.{Found}
@@ -112,3 +114,11 @@ module _ (t : List ℕ) (small : ParentsSmaller t) where
   pub root-is-root : (e : ℕ) → e < entries t → isRoot (rowOf t (rootOf t e)) ≡ true
   unfolding rootOf
   root-is-root e here = root-facts e e here (le-refl e) .1
+
+  -- the roots are the entries that belong to themselves
+  pub own-root : (e : ℕ) → e < entries t → eqb (rootOf t e) e ≡ isRoot (rowOf t e)
+  own-root e here =
+      ⊎-elim
+      (λ (y : isRoot (rowOf t e) ≡ true). eq-eqb (rootOf t e) e (root-itself e y) ∙ sym y)
+      (λ (f : isRoot (rowOf t e) ≡ false). ne-eqb (rootOf t e) e (λ same. false≢true (sym f ∙ ap (λ k. isRoot (rowOf t k)) (sym same) ∙ root-is-root e here)) ∙ sym f)
+      (known (isRoot (rowOf t e)))

@@ -25,7 +25,7 @@ module _ (script : List ℕ) (small : (i : ℕ) → byte script i < 256) where
       (λ y. on-pick (λ (r : Reading). r .count ≤ 255) _ _ _ (λ y. on-pick (λ (n : ℕ). n ≤ 255) (carriesData (byte script (at + 1))) (byte script (at + 4)) 0 (λ y. omega arith) (λ n. omega arith)) (λ n. omega arith))
       (λ n. omega arith)
 
-  brief : (at : ℕ) → length (part script (readAt script at .from) (readAt script at .count)) ≤ 255
+  pub brief : (at : ℕ) → length (part script (readAt script at .from) (readAt script at .count)) ≤ 255
   brief at = rw length-take (omega (arith, few at))
 
   module _ (before : Card) (domain : ℕ) where

@@ -28,7 +28,7 @@ use Rattle.command.proofs.Keeps.{Holds}
 use Rattle.compact.proofs.Runs as compact
 use Rattle.expanded.proofs.Runs as expanded
 use Rattle.expanded.specs.Templates.{templateOf}
-use Rattle.engine.specs.Numbers.{Arguments, argumentsFit, scriptFits, leastResponse, markFits, templateFits, formatOf, firstGiven, notSound, runRefusals}
+use Rattle.engine.specs.Numbers.{Arguments, applicationFits, argumentsFit, scriptFits, leastResponse, markFits, templateFits, formatOf, firstGiven, notSound, runRefusals}
 use Rattle.engine.specs.Calls.{Result, accepted, runScript, run}
 use Rattle.engine.specs.History.{Call, running, takingBack, given, AllInBytes, InBytes, Demand3}
 use Rattle.engine.proofs.History.{number, Laws, demand3}
@@ -65,7 +65,7 @@ module _ (a : Arguments) (c : Card) (small : (i : ℕ) → byte (a .script) i < 
 
   -- the session starts good
   starts : Good (c .table) (start (a .application))
-  unfolding argumentsFit
+  unfolding argumentsFit applicationFits
   starts =
       let t = c .table in
       let e = a .application in

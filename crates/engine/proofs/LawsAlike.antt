@@ -17,7 +17,7 @@ use Rattle.journal.proofs.Written.{sound-writable}
 use Rattle.journal.proofs.Cut.{cut-length, cut-scripts, cut-used}
 use Rattle.journal.proofs.Kept.{taken-sound}
 use Rattle.command.proofs.Rows.{rows-taken}
-use Rattle.engine.specs.Numbers.{Arguments, argumentsFit, scriptFits, leastResponse, markFits, templateFits, formatOf, firstGiven, notSound, runRefusals}
+use Rattle.engine.specs.Numbers.{Arguments, applicationFits, argumentsFit, scriptFits, leastResponse, markFits, templateFits, formatOf, firstGiven, notSound, runRefusals}
 use Rattle.engine.specs.Calls.{numbered, run}
 use Rattle.engine.specs.History.{Call, running, takingBack, confirming, given, seen}
 use Rattle.engine.proofs.History.{number}
@@ -43,7 +43,7 @@ module _ (c : Card) (sound : soundCard c ≡ true) where
       (and-both (ltb s mostScripts) (leb (u + entryBytes 0) (length j - headSize)) (lt-ltb s mostScripts (omega arith)) (le-leb (u + entryBytes 0) (length j - headSize) (omega arith)))
 
   arguments-back : (a : Arguments) → argumentsFit (takenBack c .table) a ≡ argumentsFit (c .table) a
-  unfolding argumentsFit
+  unfolding argumentsFit applicationFits
   arguments-back a =
       let r = rows-taken c sound in
       λ i. leb (a .format) 1 && ((eqb (a .application) 0 || (ltb (a .application) (r .count i) && isADF (r .alike (a .application) i))) && (eqb (a .domain) 0x00 || eqb (a .domain) 0xFF))

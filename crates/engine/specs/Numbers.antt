@@ -31,13 +31,15 @@ pub record Refusal : Type 0 where
 unfoldable pub formatOf : ℕ → Format
 formatOf format = pick (eqb format 0) Compact Expanded
 
--- "format not 0 (compact) or 1 (expanded); or application neither 0 (shared files) nor an ADF's entry number; or access domain
--- neither 00 nor FF"
+-- "application neither 0 (shared files) nor an ADF's entry number"
+unfoldable pub applicationFits : List ℕ → ℕ → Bool
+applicationFits t application = eqb application 0 || (ltb application (entries t) && isADF (rowOf t application))
+
+-- "format not 0 (compact) or 1 (expanded); or application ..; or access domain neither 00 nor FF"
 unfoldable pub argumentsFit : List ℕ → Arguments → Bool
 argumentsFit t a =
     leb (a .format) 1
-    && ((eqb (a .application) 0 || (ltb (a .application) (entries t) && isADF (rowOf t (a .application))))
-    && (eqb (a .domain) 0x00 || eqb (a .domain) 0xFF))
+    && (applicationFits t (a .application) && (eqb (a .domain) 0x00 || eqb (a .domain) 0xFF))
 
 -- "script length not 1 to 1,024"
 abbrev pub longestScript : ℕ

@@ -1,4 +1,6 @@
 // The three calls.
+pub mod numbers;
+
 ghost use mathlib.Core.Path.{_≡_};
 ghost use mathlib.Core.List.{[]};
 ghost use Rattle.card.specs.Row.{lent};

@@ -1,0 +1,148 @@
+/* The comparison: the library and the second program on the same cards and the same calls.
+ * All is made from one seed, and no expression draws twice in an open order, so that the same
+ * seed gives the same calls on every machine. */
+#ifndef COMPARE_H
+#define COMPARE_H
+
+#include <stdbool.h>
+#include <stddef.h>
+#include <stdint.h>
+
+/* ---- The lent card ---- */
+
+enum {
+    ENTRY_SIZE = 16, MOST_ENTRIES = 64, MOST_FILES = 32768, MOST_RECORDS = 254,
+    JOURNAL_SIZE = 2048, JOURNAL_HEAD = 4, MOST_USED = 2044, MOST_TRIALS = 16, TAIL_SIZE = 8,
+    MOST_OLD = 255
+};
+/* The bytes of a table entry. */
+enum {
+    AT_PARENT = 2, AT_KIND = 3, AT_START = 4, AT_LENGTH = 6, AT_RECORD_LENGTH = 8, AT_NEWEST = 9,
+    AT_STATE = 10, AT_NEVER = 12
+};
+enum { MF = 1, DF = 2, ADF = 3, TRANSPARENT = 4, LINEAR = 5, CYCLIC = 6 };
+enum { DEACTIVATED = 4, ACTIVATED = 5 };
+enum { MARK = 1, FILE_BYTES = 2, TABLE_BYTE = 3 };
+
+/* Bytes behind each lent memory that no call may change either. */
+enum { MARGIN = 16, MARGIN_BYTE = 0xA5 };
+
+struct memory {
+    size_t length;
+    uint8_t at[MOST_FILES + 2 * MARGIN];
+};
+
+struct card {
+    struct memory table, files, journal;
+};
+
+static inline unsigned number_at(const uint8_t *at) { return at[0] * 256u + at[1]; }
+
+static inline void put_number(uint8_t *at, size_t number)
+{
+    at[0] = (uint8_t)(number >> 8);
+    at[1] = (uint8_t)number;
+}
+
+static inline size_t entries_of(const struct card *card) { return card->table.length / ENTRY_SIZE; }
+
+static inline uint8_t *entry_at(struct card *card, size_t number)
+{
+    return card->table.at + number * ENTRY_SIZE;
+}
+
+static inline const uint8_t *entry_of(const struct card *card, size_t number)
+{
+    return card->table.at + number * ENTRY_SIZE;
+}
+
+static inline bool is_directory(const uint8_t *entry) { return entry[AT_KIND] <= ADF; }
+
+static inline size_t smaller(size_t a, size_t b) { return a < b ? a : b; }
+
+/* ---- Calls and histories ---- */
+
+enum { MOST_SCRIPT = 1024, LEAST_RESPONSE = 1024, SPARE = 64, MOST_CALLS = 40 };
+
+struct script {
+    size_t length;
+    uint8_t at[MOST_SCRIPT + SPARE];
+};
+
+enum call_kind { RUN, TAKE_BACK, CONFIRM, CALL_KINDS };
+
+struct call {
+    enum call_kind kind;
+    size_t application;
+    uint8_t domain, format;
+    struct script script;
+    size_t response_length; /* at most LEAST_RESPONSE + SPARE */
+};
+
+struct answer {
+    uint64_t result;
+    bool script_kept;
+    uint8_t response[LEAST_RESPONSE + SPARE + MARGIN];
+};
+
+struct history {
+    struct card start;
+    size_t count;
+    struct call calls[MOST_CALLS];
+};
+
+/* What the library did and what was expected of it, where the two first differ. */
+struct difference {
+    const char *what;
+    size_t call;   /* its place in the history */
+    bool replayed; /* with the struck-out calls left out */
+    size_t place;
+    unsigned long library, expected;
+};
+
+/* ---- compare_random.c ---- */
+void start_random(uint64_t seed);
+uint64_t random_bits(void);
+uint32_t below(uint32_t limit);
+bool one_in(uint32_t times);
+size_t between(size_t least, size_t most);
+uint8_t telling_byte(void);
+
+/* ---- compare_cards.c, compare_journals.c, compare_damage.c ---- */
+void make_card(struct card *card, size_t entries);
+size_t some_entry(const struct card *card, uint8_t kind_from);
+void make_journal(struct card *card, bool spoiled);
+void damage(struct card *card);
+
+/* ---- compare_scripts.c, compare_writing.c ---- */
+enum style { COMPACT, AA, AE, STYLES };
+
+void make_script(struct call *call, const struct card *card);
+enum style unwrap(const struct call *call, struct script *value);
+void wrap(struct script *script, enum style style, const struct script *value);
+
+/* ---- compare_coverage.c, compare_answers.c ---- */
+bool note_word(enum style style, uint8_t ins, unsigned word);
+bool note_bad_format(enum style style, unsigned code);
+void note_count(enum style style, uint32_t count);
+void note_struck(bool taken_back);
+bool note_number(enum call_kind kind, unsigned number);
+bool note_answer(const struct call *call, const struct answer *answer);
+bool print_coverage(void);
+
+/* ---- compare_histories.c, compare_play.c ---- */
+bool compare_history(struct history *history, struct difference *difference);
+
+/* Makes the next call of a history on the card as it is then. */
+typedef void call_maker(struct call *call, const struct card *now);
+
+bool play(struct history *history, call_maker *next, struct difference *difference);
+const struct answer *library_answer(size_t call);
+const struct answer *second_answer(size_t call);
+void copy_memory(struct memory *to, const struct memory *from);
+
+/* ---- compare_shorten.c, compare_print.c ---- */
+void shorten(struct history *history, struct difference *difference);
+void print_history(const struct history *history, const struct difference *difference);
+
+#endif

@@ -1,0 +1,182 @@
+/* What a run of the comparison must reach: every pair of instruction and status word that the
+ * paper allows, in compact and in both templates of expanded, every call number, and the rest
+ * named below. A pair that the paper does not allow is a failure too. */
+#include "compare.h"
+
+#include <stdio.h>
+
+enum { WORDS = 19, ROWS = 11, CELL = 5 };
+
+static const uint16_t words[WORDS] = {
+    0x9000, 0x6100, 0x6282, 0x6283, 0x6581, 0x6700, 0x6981, 0x6982, 0x6984, 0x6985,
+    0x6986, 0x6A82, 0x6A83, 0x6A86, 0x6B00, 0x6D00, 0x6E00, 0x6F00, 0x9850};
+
+/* The pairs that the paper allows: c in compact, e in expanded, b in both. 6700 is there for all,
+ * by too few bytes or no case's size. In expanded nothing waits, so there is no 61xx, C0 only
+ * fails, and 6F00 is there for all: under AA by a case 2 or 4 that the instruction does not need. */
+static const struct {
+    const char *ins;
+    uint8_t byte;
+    const char *allowed;
+} rows[ROWS] = {
+/*               9000 61xx 6282 6283 6581 6700 6981 6982 6984 6985 6986 6A82 6A83 6A86 6B00 6D00 6E00 6F00 9850 */
+    {"A4", 0xA4, "b    c    .    b    .    b    .    b    .    .    .    b    .    b    .    .    b    e    ."},
+    {"B0", 0xB0, "b    .    b    .    .    b    b    b    b    c    b    .    .    b    b    .    b    e    ."},
+    {"D6", 0xD6, "b    .    .    .    b    b    b    b    b    .    b    .    .    b    b    .    b    e    ."},
+    {"B2", 0xB2, "b    .    .    .    .    b    b    b    b    c    b    .    b    b    .    .    b    e    ."},
+    {"DC", 0xDC, "b    .    .    .    b    b    b    b    b    .    b    .    b    b    .    .    b    e    ."},
+    {"A2", 0xA2, "e    c    b    .    .    b    b    b    b    .    b    .    b    b    .    .    b    e    ."},
+    {"32", 0x32, "e    c    .    .    b    b    b    b    b    .    b    .    .    b    .    .    b    e    b"},
+    {"04", 0x04, "b    .    .    .    b    b    .    b    .    .    b    .    .    b    .    .    b    e    ."},
+    {"44", 0x44, "b    .    .    .    b    b    .    b    .    .    b    .    .    b    .    .    b    e    ."},
+    {"C0", 0xC0, "c    .    .    c    .    b    .    .    .    b    .    .    .    b    .    .    b    e    ."},
+    {"other", 0, ".    .    .    .    .    b    .    .    .    .    .    .    .    .    .    b    .    e    ."}};
+
+static const char *const styles[STYLES] = {"compact", "expanded, AA", "expanded, AE"};
+
+static bool allowed(enum style style, size_t row, size_t column)
+{
+    const char cell = rows[row].allowed[column * CELL];
+
+    return cell == 'b' || cell == (style == COMPACT ? 'c' : 'e');
+}
+
+/* The numbers of a run, a take-back and a confirmation, up to the 7. */
+enum { NUMBERS = 8 };
+static const struct {
+    const char *name, *allowed;
+} calls[CALL_KINDS] = {
+    [RUN] = {"run", "yyyyyyy."}, [TAKE_BACK] = {"take-back", "yy.....y"}, [CONFIRM] = {"confirm", "yy......"}};
+
+enum { CODES = 3, MANY = 128 };
+
+/* How often each was reached. */
+static struct {
+    unsigned long pairs[STYLES][ROWS][WORDS], numbers[CALL_KINDS][NUMBERS];
+    unsigned long codes[STYLES][CODES], many[STYLES], none[STYLES], taken_back, number_5;
+} reached;
+
+/* Notes the word of a command; false if the paper does not allow the pair. */
+bool note_word(enum style style, uint8_t ins, unsigned word)
+{
+    size_t row = 0, column = 0;
+
+    if (word >> 8 == 0x61)
+        word = 0x6100;
+    while (row < ROWS - 1 && rows[row].byte != ins)
+        row++;
+    while (column < WORDS - 1 && words[column] != word)
+        column++;
+    reached.pairs[style][row][column]++;
+    return words[column] == word && allowed(style, row, column);
+}
+
+/* Notes a Bad format TLV; false for an unknown code. */
+bool note_bad_format(enum style style, unsigned code)
+{
+    if (code < 1 || code > CODES)
+        return false;
+    reached.codes[style][code - 1]++;
+    return true;
+}
+
+void note_count(enum style style, uint32_t count)
+{
+    reached.many[style] += count >= MANY;
+    reached.none[style] += count == 0;
+}
+
+/* Notes a struck-out call: a script that was taken back, or a run refused with number 5. */
+void note_struck(bool taken_back)
+{
+    if (taken_back)
+        reached.taken_back++;
+    else
+        reached.number_5++;
+}
+
+/* Notes a call's number; false if the call does not give it. */
+bool note_number(enum call_kind kind, unsigned number)
+{
+    if (number >= NUMBERS || calls[kind].allowed[number] != 'y')
+        return false;
+    reached.numbers[kind][number]++;
+    return true;
+}
+
+static size_t missing;
+
+/* Prints how often something was reached; where it never was, that is missing. */
+static void print_reached(unsigned long times)
+{
+    missing += times == 0;
+    if (times == 0)
+        printf(" %6s", "NONE");
+    else
+        printf(" %6lu", times);
+}
+
+static void print_pairs(enum style style)
+{
+    printf("\n%-12s", styles[style]);
+    for (size_t column = 0; column < WORDS; column++)
+        if (words[column] == 0x6100)
+            printf("   61xx");
+        else
+            printf("   %04X", words[column]);
+    for (size_t row = 0; row < ROWS; row++) {
+        printf("\n%-12s", rows[row].ins);
+        for (size_t column = 0; column < WORDS; column++) {
+            if (allowed(style, row, column))
+                print_reached(reached.pairs[style][row][column]);
+            else
+                printf(" %6s", "-");
+        }
+    }
+    printf("\n");
+}
+
+static void print_numbers(void)
+{
+    printf("\n%-12s", "number");
+    for (unsigned number = 0; number < NUMBERS; number++)
+        printf(" %6u", number);
+    for (enum call_kind kind = RUN; kind < CALL_KINDS; kind++) {
+        printf("\n%-12s", calls[kind].name);
+        for (unsigned number = 0; number < NUMBERS; number++) {
+            if (calls[kind].allowed[number] == 'y')
+                print_reached(reached.numbers[kind][number]);
+            else
+                printf(" %6s", "-");
+        }
+    }
+    printf("\n");
+}
+
+/* Prints what was reached; answers whether all was. */
+bool print_coverage(void)
+{
+    for (enum style style = COMPACT; style < STYLES; style++)
+        print_pairs(style);
+    print_numbers();
+    for (enum style style = COMPACT; style < STYLES; style++) {
+        printf("\n%-12s count 128 and more", styles[style]);
+        print_reached(reached.many[style]);
+        if (style == COMPACT)
+            continue;
+        printf(", count 0");
+        print_reached(reached.none[style]);
+        for (size_t code = 0; code < CODES; code++) {
+            printf(", bad format %02zu", code + 1);
+            print_reached(reached.codes[style][code]);
+        }
+    }
+    printf("\nstruck out   taken back");
+    print_reached(reached.taken_back);
+    printf(", number 5");
+    print_reached(reached.number_5);
+    printf("\n\n");
+    if (missing > 0)
+        printf("not reached: %zu\n", missing);
+    return missing == 0;
+}

@@ -1,0 +1,74 @@
+/* Histories: a card, and runs, take-backs and confirmations on it. */
+#include "compare.h"
+
+/* One call in so many is a take-back, in the present history. */
+static uint32_t take_backs;
+
+/* An application: mostly 0 or an ADF's entry number. */
+static size_t some_application(const struct card *card)
+{
+    size_t number = below((uint32_t)entries_of(card) + 1);
+
+    if (one_in(40))
+        return one_in(2) ? number : number + ((size_t)1 << 8 * (1 + below(7)));
+    while (number > 0 && (number == entries_of(card) || entry_of(card, number)[AT_KIND] != ADF))
+        number--;
+    return one_in(3) ? 0 : number;
+}
+
+/* Makes a run, a take-back or a confirmation. */
+static void make_next(struct call *call, const struct card *now)
+{
+    const bool full = now->journal.at[2] == MOST_TRIALS || number_at(now->journal.at) + TAIL_SIZE > MOST_USED;
+
+    call->kind = one_in(full ? 2 : take_backs) ? TAKE_BACK : one_in(30) ? CONFIRM : RUN;
+    if (call->kind != RUN)
+        return;
+    call->application = some_application(now);
+    call->domain = one_in(24) ? 0xFF : 0x00;
+    if (one_in(120))
+        call->domain = telling_byte();
+    call->format = (uint8_t)below(2);
+    make_script(call, now);
+    if (one_in(120))
+        call->format = telling_byte();
+    call->response_length = LEAST_RESPONSE;
+    if (one_in(3))
+        call->response_length += below(SPARE + 1);
+    if (one_in(60))
+        call->response_length = between(0, LEAST_RESPONSE - 1);
+}
+
+/* Makes a history of calls that follow the card as it changes, and plays it. */
+static bool compare_sound(struct history *history, struct difference *difference)
+{
+    history->count = 1 + below(MOST_CALLS);
+    make_card(&history->start, 1 + below(one_in(8) ? MOST_ENTRIES : 16));
+    if (one_in(2))
+        make_journal(&history->start, false);
+    return play(history, make_next, difference);
+}
+
+/* Makes a history of few calls on a card that is damaged before them, and plays it. */
+static bool compare_damaged(struct history *history, struct difference *difference)
+{
+    struct card *card = &history->start;
+
+    history->count = 1 + below(3);
+    make_card(card, one_in(20) ? MOST_ENTRIES + 1 : 1 + below(one_in(8) ? MOST_ENTRIES : 16));
+    if (one_in(2))
+        make_journal(card, false);
+    for (size_t i = 0; i < history->count; i++)
+        make_next(&history->calls[i], card);
+    damage(card);
+    return play(history, NULL, difference);
+}
+
+/* Makes a history, on a sound card or on a damaged one, and plays it. */
+bool compare_history(struct history *history, struct difference *difference)
+{
+    static const uint32_t often[] = {2, 6, 30};
+
+    take_backs = often[below(3)];
+    return one_in(2) ? compare_damaged(history, difference) : compare_sound(history, difference);
+}

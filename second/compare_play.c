@@ -1,0 +1,207 @@
+/* Plays a history on the library and on the second program, call by call, and once more on the
+ * library with the struck-out calls left out. */
+#include "compare.h"
+
+#include <string.h>
+
+#include "rfm.h"
+#include "second.h"
+
+struct program {
+    uint64_t (*run)(uint8_t *, size_t, uint8_t *, size_t, uint8_t *, size_t, size_t, uint8_t, uint8_t,
+                    const uint8_t *, size_t, uint8_t *, size_t);
+    uint64_t (*take_back)(uint8_t *, size_t, uint8_t *, size_t, uint8_t *, size_t);
+    uint64_t (*confirm)(uint8_t *, size_t, uint8_t *, size_t, uint8_t *, size_t);
+};
+
+static const struct program library = {rfm_run, rfm_take_back, rfm_confirm};
+static const struct program second = {second_run, second_take_back, second_confirm};
+
+static struct answer library_answers[MOST_CALLS], second_answers[MOST_CALLS];
+
+const struct answer *library_answer(size_t call) { return &library_answers[call]; }
+const struct answer *second_answer(size_t call) { return &second_answers[call]; }
+
+/* Copies a lent memory and its margin. */
+void copy_memory(struct memory *to, const struct memory *from)
+{
+    to->length = from->length;
+    memcpy(to->at, from->at, from->length + MARGIN);
+}
+
+static void copy_card(struct card *to, const struct card *from)
+{
+    copy_memory(&to->table, &from->table);
+    copy_memory(&to->files, &from->files);
+    copy_memory(&to->journal, &from->journal);
+}
+
+/* Fills response memory with a pattern. */
+static void fill_response(uint8_t *response)
+{
+    static uint8_t pattern[sizeof((struct answer *)0)->response];
+
+    if (pattern[0] == 0)
+        for (size_t i = 0; i < sizeof pattern; i++)
+            pattern[i] = (uint8_t)(i * 37 + 0x5A);
+    memcpy(response, pattern, sizeof pattern);
+}
+
+/* Makes one call of a program on a card, with the script and the response memory lent. */
+static void make_call(const struct program *program, struct card *card, const struct call *call,
+                      struct answer *answer)
+{
+    static struct script script;
+    uint8_t *const table = card->table.at, *const files = card->files.at, *const journal = card->journal.at;
+    const size_t table_length = card->table.length, files_length = card->files.length,
+                 journal_length = card->journal.length;
+
+    fill_response(answer->response);
+    answer->script_kept = true;
+    switch (call->kind) {
+    case RUN:
+        memcpy(script.at, call->script.at, call->script.length);
+        answer->result = program->run(table, table_length, files, files_length, journal, journal_length,
+                                      call->application, call->domain, call->format, script.at,
+                                      call->script.length, answer->response, call->response_length);
+        answer->script_kept = memcmp(script.at, call->script.at, call->script.length) == 0;
+        break;
+    case TAKE_BACK:
+        answer->result = program->take_back(table, table_length, files, files_length, journal, journal_length);
+        break;
+    default:
+        answer->result = program->confirm(table, table_length, files, files_length, journal, journal_length);
+        break;
+    }
+}
+
+/* ---- Comparing ---- */
+
+static bool differ(struct difference *difference, const char *what, size_t place, unsigned long library,
+                   unsigned long expected)
+{
+    difference->what = what;
+    difference->place = place;
+    difference->library = library;
+    difference->expected = expected;
+    return false;
+}
+
+static bool same_value(const char *what, unsigned long library, unsigned long expected,
+                       struct difference *difference)
+{
+    return library == expected || differ(difference, what, 0, library, expected);
+}
+
+static bool same_bytes(const char *what, const uint8_t *library, const uint8_t *expected, size_t length,
+                       struct difference *difference)
+{
+    size_t place = 0;
+
+    if (memcmp(library, expected, length) == 0)
+        return true;
+    while (library[place] == expected[place])
+        place++;
+    return differ(difference, what, place, library[place], expected[place]);
+}
+
+/* Compares number, length, count and the whole response memory; the script is as it was. */
+static bool same_answer(const struct answer *a, const struct answer *b, struct difference *difference)
+{
+    return same_value("number", RFM_NUMBER(a->result), RFM_NUMBER(b->result), difference) &&
+           same_value("count", RFM_COUNT(a->result), RFM_COUNT(b->result), difference) &&
+           same_value("length", RFM_LENGTH(a->result), RFM_LENGTH(b->result), difference) &&
+           same_bytes("response memory", a->response, b->response, sizeof a->response, difference) &&
+           same_value("script kept", a->script_kept, true, difference);
+}
+
+static bool same_memory(const char *what, const struct memory *a, const struct memory *b,
+                        struct difference *difference)
+{
+    return same_bytes(what, a->at, b->at, a->length + MARGIN, difference);
+}
+
+static bool same_card(const struct card *a, const struct card *b, struct difference *difference)
+{
+    return same_memory("table", &a->table, &b->table, difference) &&
+           same_memory("file memory", &a->files, &b->files, difference) &&
+           same_memory("journal", &a->journal, &b->journal, difference);
+}
+
+/* ---- Demand 3 ---- */
+
+/* Finds the calls to be struck out: each script that was taken back with its take-back, each run
+ * refused with number 5. A take-back of a script from before the history stays. */
+static size_t strike_out(const struct history *history, bool *struck)
+{
+    size_t on_trial[MOST_CALLS], trials = 0, strikes = 0;
+
+    for (size_t i = 0; i < history->count; i++) {
+        const unsigned number = RFM_NUMBER(library_answers[i].result);
+        const enum call_kind kind = history->calls[i].kind;
+        struck[i] = kind == RUN && number == 5;
+        if (kind == RUN && number == 0)
+            on_trial[trials++] = i;
+        if (kind == CONFIRM && number == 0)
+            trials = 0;
+        if (kind == TAKE_BACK && number == 0 && trials > 0)
+            struck[i] = struck[on_trial[--trials]] = true;
+        if (struck[i])
+            note_struck(kind == TAKE_BACK);
+        strikes += struck[i];
+    }
+    return strikes;
+}
+
+/* Plays the history on the library without the struck-out calls: the same answers and, at the
+ * end, the same card. */
+static bool replay(const struct history *history, const struct card *end, struct difference *difference)
+{
+    static struct card card;
+    static struct answer answer;
+    bool struck[MOST_CALLS];
+
+    if (strike_out(history, struck) == 0)
+        return true;
+    copy_card(&card, &history->start);
+    for (size_t i = 0; i < history->count; i++) {
+        if (struck[i])
+            continue;
+        difference->call = i;
+        make_call(&library, &card, &history->calls[i], &answer);
+        if (!same_answer(&library_answers[i], &answer, difference))
+            return false;
+    }
+    return same_card(end, &card, difference);
+}
+
+/* Plays a history, each call made as it comes if a maker is given; false at the first
+ * difference, which ends the history. */
+bool play(struct history *history, call_maker *next, struct difference *difference)
+{
+    static struct card library_card, second_card;
+
+    *difference = (struct difference){.what = NULL};
+    copy_card(&library_card, &history->start);
+    copy_card(&second_card, &history->start);
+    for (size_t i = 0; i < history->count; i++) {
+        const struct call *call = &history->calls[i];
+        if (next != NULL)
+            next(&history->calls[i], &second_card);
+        make_call(&library, &library_card, call, &library_answers[i]);
+        make_call(&second, &second_card, call, &second_answers[i]);
+        const bool same = same_answer(&library_answers[i], &second_answers[i], difference) &&
+                          same_card(&library_card, &second_card, difference) &&
+                          same_value("answer that the paper allows",
+                                     note_answer(call, &library_answers[i]), true, difference);
+        if (!same) {
+            difference->call = i;
+            history->count = i + 1;
+            return false;
+        }
+    }
+    if (replay(history, &library_card, difference))
+        return true;
+    difference->replayed = true;
+    return false;
+}

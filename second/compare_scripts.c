@@ -1,0 +1,256 @@
+/* Scripts for a card, mostly right, in both formats. */
+#include "compare_scripts.h"
+
+#include <string.h>
+
+/* The current file, or the directory if there is none. */
+static size_t current(const struct maker *maker)
+{
+    return maker->file != 0 ? maker->file : maker->directory;
+}
+
+/* Adds a command for the current file, right or flawed. */
+static void add_drawn(struct maker *maker, uint8_t ins, enum flaw flaw)
+{
+    struct command command;
+
+    draw_command(&command, ins, maker->card, current(maker));
+    flaw_command(&command, flaw, entry_of(maker->card, current(maker)));
+    add_command(maker, &command, flaw);
+}
+
+/* An instruction for the current file as it is now; in compact one that reads only if it is the
+ * last. */
+static uint8_t fitting(const struct maker *maker, bool last)
+{
+    enum { CHOICES = 8, READING = 2 };
+    static const uint8_t choices[][CHOICES] = {
+        {GET_RESPONSE, GET_RESPONSE, SELECT, SELECT, SELECT, SELECT, SELECT, SELECT},
+        [TRANSPARENT] = {READ_BINARY, READ_BINARY, UPDATE_BINARY, UPDATE_BINARY, UPDATE_BINARY,
+                         DEACTIVATE, ACTIVATE, ACTIVATE},
+        [LINEAR] = {READ_RECORD, READ_RECORD, UPDATE_RECORD, UPDATE_RECORD, SEARCH, SEARCH,
+                    DEACTIVATE, ACTIVATE},
+        [CYCLIC] = {READ_RECORD, READ_RECORD, UPDATE_RECORD, SEARCH, INCREASE, INCREASE,
+                    DEACTIVATE, ACTIVATE}};
+    const uint8_t *entry = entry_of(maker->card, current(maker));
+    const uint32_t first = maker->style == COMPACT && !last ? READING : 0;
+
+    if (last && maker->waits && one_in(2))
+        return GET_RESPONSE;
+    if (maker->deactivated && !one_in(4))
+        return ACTIVATE;
+    return choices[is_directory(entry) ? 0 : entry[AT_KIND]][first + below(CHOICES - first)];
+}
+
+/* Adds a command that fits, and after which the script can go on. */
+static void add_fitting(struct maker *maker, enum flaw flaw)
+{
+    add_drawn(maker, fitting(maker, false), flaw);
+}
+
+/* Any instruction, an unknown one included. */
+static uint8_t any_instruction(void)
+{
+    static const uint8_t all[] = {
+        SELECT, READ_BINARY, UPDATE_BINARY, READ_RECORD, UPDATE_RECORD, SEARCH, INCREASE,
+        DEACTIVATE, ACTIVATE, GET_RESPONSE, 0x20};
+
+    return all[below(sizeof all)];
+}
+
+static enum flaw some_flaw(uint32_t right)
+{
+    return one_in(right) ? 1 + below(FLAWS - 1) : RIGHT;
+}
+
+/* Adds the last command: one that fits or any one, right or flawed. */
+static void add_last(struct maker *maker)
+{
+    const uint8_t ins = one_in(3) ? any_instruction() : fitting(maker, true);
+
+    add_drawn(maker, ins, some_flaw(2));
+}
+
+/* ---- Going to a file ---- */
+
+static void add_select(struct maker *maker, uint8_t p1, const uint8_t *path, size_t length, uint8_t p2)
+{
+    struct command command = {.ins = SELECT, .p1 = p1, .p2 = p2, .p3 = (uint8_t)length};
+
+    memcpy(command.data, path, length);
+    command.form = needed_form(&command);
+    add_command(maker, &command, RIGHT);
+}
+
+/* Whether the way from an entry up to a directory goes on. */
+static bool goes_up(const struct card *card, size_t directory, size_t entry)
+{
+    return entry != directory && entry != 0 && entry_of(card, entry)[AT_KIND] != ADF;
+}
+
+/* The identifiers from below a directory to an entry; answers their bytes. Where the entry does
+ * not lie below the directory the path starts at the ADF or the MF above it. */
+static size_t path_to(const struct card *card, size_t from, size_t entry, uint8_t *path)
+{
+    uint8_t backwards[MOST_ENTRIES];
+    size_t depth = 0, length = 0;
+
+    while (goes_up(card, from, entry)) {
+        backwards[depth++] = (uint8_t)entry;
+        entry = entry_of(card, entry)[AT_PARENT];
+    }
+    for (; depth > 0; depth--, length += 2)
+        memcpy(path + length, entry_of(card, backwards[depth - 1]), 2);
+    return length;
+}
+
+/* Whether an entry lies below a directory, or is it, with no other ADF between. */
+static bool lies_below(const struct card *card, size_t directory, size_t entry)
+{
+    while (goes_up(card, directory, entry))
+        entry = entry_of(card, entry)[AT_PARENT];
+    return entry == directory;
+}
+
+/* Selects an entry by a path, step by step, or by its identifier alone. */
+static void go_to(struct maker *maker, size_t entry, uint8_t p2)
+{
+    const uint8_t *root = entry_of(maker->card, maker->root), *target = entry_of(maker->card, entry);
+    const uint32_t way = below(4);
+    uint8_t path[2 * MOST_ENTRIES];
+    size_t length = path_to(maker->card, maker->root, entry, path);
+
+    if (length == 0 || (way == 0 && (target[AT_PARENT] == maker->directory || one_in(3)))) {
+        add_select(maker, FROM_ANYWHERE, target, 2, p2);
+    } else if (way == 1) {
+        add_select(maker, FROM_ANYWHERE, root, 2, NO_DATA);
+        for (size_t at = 0; at < length; at += 2)
+            add_select(maker, FROM_ANYWHERE, path + at, 2, p2);
+    } else if (way == 2 && entry != maker->directory && lies_below(maker->card, maker->directory, entry)) {
+        length = path_to(maker->card, maker->directory, entry, path);
+        add_select(maker, PATH_FROM_DIRECTORY, path, length, p2);
+    } else {
+        add_select(maker, PATH_FROM_ROOT, path, length, p2);
+    }
+    maker->directory = is_directory(target) ? entry : target[AT_PARENT];
+    maker->file = is_directory(target) ? 0 : entry;
+    maker->deactivated = target[AT_STATE] == DEACTIVATED;
+}
+
+/* An entry below the root, a file if one is found soon. */
+static size_t some_target(const struct maker *maker)
+{
+    size_t entry = maker->root;
+
+    for (unsigned tries = 0; tries < 8; tries++) {
+        const size_t drawn = some_entry(maker->card, TRANSPARENT);
+        if (drawn != 0 && lies_below(maker->card, maker->root, drawn))
+            return drawn;
+        const size_t other = below((uint32_t)entries_of(maker->card));
+        if (lies_below(maker->card, maker->root, other))
+            entry = other;
+    }
+    return entry;
+}
+
+/* ---- Scripts ---- */
+
+/* Some commands on one file or two, and a last one. */
+static void short_script(struct maker *maker)
+{
+    for (uint32_t files = one_in(12) ? 0 : 1 + below(2); files > 0; files--) {
+        const size_t target = one_in(16) ? below((uint32_t)entries_of(maker->card)) : some_target(maker);
+        go_to(maker, target, one_in(3) ? WITH_FCP : NO_DATA);
+        for (uint32_t commands = below(4); commands > 0; commands--)
+            add_fitting(maker, some_flaw(30));
+    }
+    add_last(maker);
+}
+
+/* One command again and again, or any that fit, up to the most bytes. */
+static void long_script(struct maker *maker)
+{
+    static const uint8_t instructions[] = {SELECT, ACTIVATE, READ_BINARY, READ_RECORD, 0};
+    const uint8_t again = instructions[below(sizeof instructions)];
+    struct command command;
+
+    maker->most += between(0, 2) - 1;
+    if (one_in(3))
+        maker->most = between(500, maker->most);
+    go_to(maker, some_target(maker), NO_DATA);
+    draw_command(&command, again, maker->card, current(maker));
+    if (again == READ_BINARY)
+        command.p3 = (uint8_t)(1 + below(3));
+    while (maker->value.length < maker->most) {
+        if (again == 0)
+            draw_command(&command, fitting(maker, false), maker->card, current(maker));
+        add_command(maker, &command, RIGHT);
+    }
+}
+
+static size_t r_apdu_size(size_t data)
+{
+    uint8_t length[3];
+
+    return 1 + put_length(length, data + 2) + data + 2;
+}
+
+/* Whether reading the file can fill an answer. */
+static bool fills_answers(const uint8_t *entry)
+{
+    return entry[AT_KIND] == TRANSPARENT && entry[AT_STATE] == ACTIVATED &&
+           (entry[AT_NEVER] & 1) == 0 && number_at(entry + AT_LENGTH) >= 8;
+}
+
+/* Reads a file until the R-APDUs kept come close to 1,000 bytes, and a last command. */
+static void full_answer(struct maker *maker)
+{
+    const size_t full = 990 + below(12);
+    size_t file = some_target(maker), kept = maker->style == AE ? r_apdu_size(0) : 0;
+    uint8_t path[2 * MOST_ENTRIES];
+
+    for (unsigned tries = 0; tries < 8 && !fills_answers(entry_of(maker->card, file)); tries++)
+        file = some_target(maker);
+    const size_t most = smaller(number_at(entry_of(maker->card, file) + AT_LENGTH), 255);
+    add_select(maker, PATH_FROM_ROOT, path, path_to(maker->card, maker->root, file, path), NO_DATA);
+    maker->file = file;
+    while (most >= 8 && kept + r_apdu_size(1) <= full) {
+        struct command command = {.ins = READ_BINARY, .form = 2, .p3 = (uint8_t)most};
+        while (kept + r_apdu_size(command.p3) > full)
+            command.p3--;
+        add_command(maker, &command, RIGHT);
+        kept += r_apdu_size(command.p3);
+    }
+    const uint8_t ins = any_instruction();
+    add_drawn(maker, ins, one_in(3) ? FORM : some_flaw(3));
+}
+
+static void noise(struct maker *maker)
+{
+    for (uint32_t bytes = below(40); bytes > 0; bytes--) {
+        const uint8_t byte = telling_byte();
+        add(maker, &byte, 1);
+    }
+}
+
+/* Makes the script of a run whose application, domain and format are set. */
+void make_script(struct call *call, const struct card *card)
+{
+    const size_t root = call->application < entries_of(card) ? call->application : 0;
+    const enum style style = call->format == 0 ? COMPACT : one_in(2) ? AA : AE;
+    struct maker maker = {.card = card, .root = root, .directory = root, .style = style,
+                          .most = style == COMPACT ? MOST_SCRIPT : MOST_SCRIPT - 4};
+    const uint32_t sort = below(16);
+
+    if (sort == 0)
+        long_script(&maker);
+    else if (sort == 1)
+        noise(&maker);
+    else if (sort < 5 && style != COMPACT)
+        full_answer(&maker);
+    else
+        short_script(&maker);
+    wrap(&call->script, style, &maker.value);
+    if (one_in(16))
+        mutate(&call->script);
+}

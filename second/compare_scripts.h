@@ -1,0 +1,46 @@
+/* Commands, and the scripts of the comparison that are made of them. */
+#ifndef COMPARE_SCRIPTS_H
+#define COMPARE_SCRIPTS_H
+
+#include "compare.h"
+
+enum {
+    SELECT = 0xA4, READ_BINARY = 0xB0, UPDATE_BINARY = 0xD6, READ_RECORD = 0xB2,
+    UPDATE_RECORD = 0xDC, SEARCH = 0xA2, INCREASE = 0x32, DEACTIVATE = 0x04, ACTIVATE = 0x44,
+    GET_RESPONSE = 0xC0
+};
+enum { FROM_ANYWHERE = 0x00, PATH_FROM_ROOT = 0x08, PATH_FROM_DIRECTORY = 0x09 };
+enum { WITH_FCP = 0x04, NO_DATA = 0x0C };
+enum { NEXT = 0x02, PREVIOUS = 0x03, ABSOLUTE = 0x04, FORWARD = 0x04, BACKWARD = 0x05 };
+
+struct command {
+    uint8_t cla, ins, p1, p2, p3;
+    uint8_t data[255]; /* P3 of them, in forms 3 and 4 */
+    unsigned form;     /* the case; compact writes 1 as 2, and 4 as 3 */
+};
+
+/* The first flaws are in what a command says, the last two in how it is written out. */
+enum flaw { RIGHT, CLASS, INSTRUCTION, P1P2, PLACE, LENGTH, FORM, SIZE, TLV, FLAWS };
+
+/* A script in the making, and where it stands if all went well so far. */
+struct maker {
+    const struct card *card;
+    size_t root, directory, file;
+    bool deactivated, waits; /* the current file; bytes for GET RESPONSE */
+    enum style style;
+    size_t most; /* bytes of the value */
+    struct script value;
+};
+
+/* ---- compare_commands.c ---- */
+void draw_command(struct command *command, uint8_t ins, const struct card *card, size_t number);
+unsigned needed_form(const struct command *command);
+void flaw_command(struct command *command, enum flaw flaw, const uint8_t *entry);
+
+/* ---- compare_writing.c ---- */
+void add(struct maker *maker, const uint8_t *bytes, size_t length);
+size_t put_length(uint8_t *at, size_t length);
+void add_command(struct maker *maker, const struct command *command, enum flaw flaw);
+void mutate(struct script *script);
+
+#endif
