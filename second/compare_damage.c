@@ -32,6 +32,31 @@ static void move_file(struct card *card)
         put_number(at, number_at(at) + between(0, 2) - 1);
 }
 
+/* Sets a byte of a file to the last sound value there or to the next one. */
+static void push_byte(struct card *card)
+{
+    uint8_t *entry = entry_at(card, some_entry(card, TRANSPARENT));
+    const unsigned records = entry[AT_RECORD_LENGTH] == 0 ? 1 : number_at(entry + AT_LENGTH) / entry[AT_RECORD_LENGTH];
+
+    switch (below(5)) {
+    case 0:
+        entry[AT_NEWEST] = (uint8_t)(records - below(2));
+        break;
+    case 1:
+        entry[AT_NEWEST] = (uint8_t)below(2);
+        break;
+    case 2:
+        entry[AT_STATE] = (uint8_t)(ACTIVATED + below(2));
+        break;
+    case 3:
+        entry[AT_NEVER] = (uint8_t)(0x1F + below(2));
+        break;
+    default:
+        entry[AT_RECORD_LENGTH] = (uint8_t)below(2);
+        break;
+    }
+}
+
 /* Gives an entry another one's identifier or a reserved one, or another parent. */
 static void misplace(struct card *card)
 {
@@ -78,7 +103,7 @@ static void fill_with_records(struct card *card)
         card->files.length = end;
 }
 
-/* Gives a memory another length: by one, by one entry, none, or one at the largest. */
+/* Gives a memory another length: a smaller one or none, by one, by one entry, or the largest. */
 static void resize(struct memory *memory, size_t largest)
 {
     switch (below(5)) {
@@ -86,7 +111,7 @@ static void resize(struct memory *memory, size_t largest)
         memory->length = between(0, memory->length);
         break;
     case 1:
-        memory->length = between(largest, largest + ENTRY_SIZE);
+        memory->length = largest + below(2);
         break;
     case 2:
         memory->length = smaller(memory->length + ENTRY_SIZE, largest + ENTRY_SIZE);
@@ -135,24 +160,27 @@ static void change_journal(struct card *card)
 /* Damages a sound card in one place; now and then it is still sound. */
 void damage(struct card *card)
 {
-    switch (below(8)) {
+    switch (below(10)) {
     case 0:
     case 1:
         change(card->table.at + below((uint32_t)card->table.length));
         break;
     case 2:
-        move_file(card);
+        push_byte(card);
         break;
     case 3:
-        misplace(card);
+        move_file(card);
         break;
     case 4:
-        fill_with_records(card);
+        misplace(card);
         break;
     case 5:
-        resize_one(card);
+        fill_with_records(card);
         break;
     case 6:
+        resize_one(card);
+        break;
+    case 7:
         change_journal(card);
         break;
     default:

@@ -70,5 +70,5 @@ bool compare_history(struct history *history, struct difference *difference)
     static const uint32_t often[] = {2, 6, 30};
 
     take_backs = often[below(3)];
-    return one_in(2) ? compare_damaged(history, difference) : compare_sound(history, difference);
+    return one_in(3) ? compare_sound(history, difference) : compare_damaged(history, difference);
 }

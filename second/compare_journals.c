@@ -59,22 +59,34 @@ static void draw_table_byte(const struct card *card, size_t file, struct journal
                                      : between(DEACTIVATED, ACTIVATED));
 }
 
+/* Names byte 9 instead of byte 10, with an old value that is just too large or zero. */
+static void spoil_newest(const struct card *card, struct journal_entry *entry)
+{
+    const uint8_t *of = entry_of(card, number_at(entry->tail + 2) / ENTRY_SIZE);
+
+    entry->tail[3] = (uint8_t)((entry->tail[3] & 0xF0) | AT_NEWEST);
+    entry->old[0] = (uint8_t)(of[AT_KIND] == CYCLIC ? number_at(of + AT_LENGTH) / of[AT_RECORD_LENGTH] : 0);
+}
+
 /* Changes one field of an entry so that it is mostly just not sound. */
 static void spoil(const struct card *card, struct journal_entry *entry)
 {
+    static const uint8_t zeros[] = {1, 6, 7};
     uint8_t *tail = entry->tail;
     const size_t n = number_at(tail + 4), place = number_at(tail + 2);
     const size_t memory = tail[0] == FILE_BYTES ? card->files.length : card->table.length;
 
-    switch (below(8)) {
+    if (tail[0] == TABLE_BYTE && one_in(3)) {
+        spoil_newest(card, entry);
+        return;
+    }
+    switch (below(7)) {
     case 0:
         tail[0] = telling_byte();
         break;
-    case 1: {
-        static const uint8_t zeros[] = {1, 6, 7};
+    case 1:
         tail[zeros[below(sizeof zeros)]] = 1;
         break;
-    }
     case 2: /* out of its memory by one, or anywhere */
         put_number(tail + 2, one_in(2) ? memory - n + 1 : below((uint32_t)memory + 20));
         break;
@@ -82,26 +94,15 @@ static void spoil(const struct card *card, struct journal_entry *entry)
         put_number(tail + 2, place + between(0, 2) - 1);
         break;
     case 4: /* a directory's state */
-        put_number(tail + 2, (size_t)some_entry(card, DF) * ENTRY_SIZE + AT_STATE);
+        put_number(tail + 2, some_entry(card, DF) * ENTRY_SIZE + AT_STATE);
         break;
     case 5: /* one old byte too many, or a wrong number of them */
-        if (one_in(2)) {
+        put_number(tail + 4, one_in(2) ? MOST_OLD + 1 : n == 1 ? below(3) : 0);
+        if (number_at(tail + 4) > MOST_OLD)
             put_number(tail + 2, 0);
-            put_number(tail + 4, MOST_OLD + 1);
-        } else {
-            put_number(tail + 4, n == 1 ? below(3) : 0);
-        }
         break;
-    case 6: /* an old value not sound there */
+    default: /* an old value not sound there */
         entry->old[0] = one_in(2) ? 3 + (uint8_t)below(4) : telling_byte();
-        break;
-    default: /* newest place out of the file by one: place is byte 9 or 10 of a table entry */
-        if (tail[0] == TABLE_BYTE) {
-            const uint8_t *of = entry_of(card, place / ENTRY_SIZE);
-            tail[3] = (uint8_t)((tail[3] & 0xF0) | AT_NEWEST);
-            entry->old[0] = (uint8_t)(of[AT_KIND] == CYCLIC
-                                          ? number_at(of + AT_LENGTH) / of[AT_RECORD_LENGTH] : 0);
-        }
         break;
     }
 }

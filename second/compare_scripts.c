@@ -9,13 +9,22 @@ static size_t current(const struct maker *maker)
     return maker->file != 0 ? maker->file : maker->directory;
 }
 
-/* Adds a command for the current file, right or flawed. */
+/* A flaw once in so many times. */
+static enum flaw some_flaw(uint32_t times)
+{
+    return one_in(times) ? 1 + below(FLAWS - 1) : RIGHT;
+}
+
+/* Adds a command for the current file, right or flawed; a flaw often does not come alone. */
 static void add_drawn(struct maker *maker, uint8_t ins, enum flaw flaw)
 {
+    const uint8_t *entry = entry_of(maker->card, current(maker));
     struct command command;
 
     draw_command(&command, ins, maker->card, current(maker));
-    flaw_command(&command, flaw, entry_of(maker->card, current(maker)));
+    flaw_command(&command, flaw, entry);
+    if (flaw != RIGHT && one_in(2))
+        flaw_command(&command, some_flaw(1), entry);
     add_command(maker, &command, flaw);
 }
 
@@ -56,11 +65,6 @@ static uint8_t any_instruction(void)
         DEACTIVATE, ACTIVATE, GET_RESPONSE, 0x20};
 
     return all[below(sizeof all)];
-}
-
-static enum flaw some_flaw(uint32_t right)
-{
-    return one_in(right) ? 1 + below(FLAWS - 1) : RIGHT;
 }
 
 /* Adds the last command: one that fits or any one, right or flawed. */
@@ -158,7 +162,9 @@ static size_t some_target(const struct maker *maker)
 /* Some commands on one file or two, and a last one. */
 static void short_script(struct maker *maker)
 {
-    for (uint32_t files = one_in(12) ? 0 : 1 + below(2); files > 0; files--) {
+    const bool none = one_in(maker->closed ? 2 : 12);
+
+    for (uint32_t files = none ? 0 : 1 + below(2); files > 0; files--) {
         const size_t target = one_in(16) ? below((uint32_t)entries_of(maker->card)) : some_target(maker);
         go_to(maker, target, one_in(3) ? WITH_FCP : NO_DATA);
         for (uint32_t commands = below(4); commands > 0; commands--)
@@ -239,6 +245,7 @@ void make_script(struct call *call, const struct card *card)
     const size_t root = call->application < entries_of(card) ? call->application : 0;
     const enum style style = call->format == 0 ? COMPACT : one_in(2) ? AA : AE;
     struct maker maker = {.card = card, .root = root, .directory = root, .style = style,
+                          .closed = call->domain == 0xFF,
                           .most = style == COMPACT ? MOST_SCRIPT : MOST_SCRIPT - 4};
     const uint32_t sort = below(16);
 

@@ -26,7 +26,9 @@ enum flaw { RIGHT, CLASS, INSTRUCTION, P1P2, PLACE, LENGTH, FORM, SIZE, TLV, FLA
 struct maker {
     const struct card *card;
     size_t root, directory, file;
-    bool deactivated, waits; /* the current file; bytes for GET RESPONSE */
+    bool closed;      /* access domain FF */
+    bool deactivated; /* the current file */
+    bool waits;       /* bytes for GET RESPONSE */
     enum style style;
     size_t most; /* bytes of the value */
     struct script value;

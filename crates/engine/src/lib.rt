@@ -1,5 +1,6 @@
 // The three calls.
 pub mod numbers;
+pub mod scripts;
 
 ghost use mathlib.Core.Path.{_≡_};
 ghost use mathlib.Core.List.{[]};
