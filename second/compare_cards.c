@@ -156,20 +156,21 @@ static void mark_margin(struct memory *memory)
     memset(memory->at + memory->length, MARGIN_BYTE, 2 * MARGIN);
 }
 
-/* Makes a sound card with so many entries and nothing on trial. */
+/* Makes a sound card with so many entries and nothing on trial. One more entry lies behind the
+ * table, where no call may look. */
 void make_card(struct card *card, size_t entries)
 {
     const bool deep = one_in(3);
     size_t lengths = 0;
 
     card->table.length = entries * ENTRY_SIZE;
-    for (size_t number = 0; number < entries; number++)
+    mark_margin(&card->table);
+    for (size_t number = 0; number <= entries; number++)
         lengths += make_entry(card, number, deep, lengths < MOST_LENGTHS ? MOST_LENGTHS - lengths : 1);
     lay_out(card);
     fill_files(&card->files);
+    mark_margin(&card->files);
     card->journal.length = JOURNAL_SIZE;
     memset(card->journal.at, 0, JOURNAL_SIZE);
-    mark_margin(&card->table);
-    mark_margin(&card->files);
     mark_margin(&card->journal);
 }

@@ -157,8 +157,8 @@ void flaw_command(struct command *command, enum flaw flaw, const uint8_t *entry)
     case P1P2:
         if (one_in(2))
             command->p1 |= (uint8_t)between(0x80, 0xFF);
-        else
-            command->p2 = one_in(2) ? (uint8_t)(command->p2 + between(0, 2) - 1) : telling_byte();
+        if (!one_in(3))
+            command->p2 = one_in(3) ? (uint8_t)(command->p2 + between(0, 2) - 1) : telling_byte();
         break;
     case PLACE:
         misplace(command, entry);

@@ -48,12 +48,15 @@ static const struct {
 } calls[CALL_KINDS] = {
     [RUN] = {"run", "yyyyyyy."}, [TAKE_BACK] = {"take-back", "yy.....y"}, [CONFIRM] = {"confirm", "yy......"}};
 
-enum { CODES = 3, MANY = 128 };
+enum { CODES = 3, COUNTS = 4 };
+
+/* Counts that must be reached: none, where two bytes begin to be needed, and more. */
+static const char *const counts[COUNTS] = {"0", "127", "128", "129 and more"};
 
 /* How often each was reached. */
 static struct {
     unsigned long pairs[STYLES][ROWS][WORDS], numbers[CALL_KINDS][NUMBERS];
-    unsigned long codes[STYLES][CODES], many[STYLES], none[STYLES], taken_back, number_5;
+    unsigned long codes[STYLES][CODES], counts[STYLES][COUNTS], taken_back, number_5;
 } reached;
 
 /* Notes the word of a command; false if the paper does not allow the pair. */
@@ -82,8 +85,10 @@ bool note_bad_format(enum style style, unsigned code)
 
 void note_count(enum style style, uint32_t count)
 {
-    reached.many[style] += count >= MANY;
-    reached.none[style] += count == 0;
+    reached.counts[style][0] += count == 0;
+    reached.counts[style][1] += count == 127;
+    reached.counts[style][2] += count == 128;
+    reached.counts[style][3] += count > 128;
 }
 
 /* Notes a struck-out call: a script that was taken back, or a run refused with number 5. */
@@ -160,20 +165,19 @@ bool print_coverage(void)
         print_pairs(style);
     print_numbers();
     for (enum style style = COMPACT; style < STYLES; style++) {
-        printf("\n%-12s count 128 and more", styles[style]);
-        print_reached(reached.many[style]);
-        if (style == COMPACT)
-            continue;
-        printf(", count 0");
-        print_reached(reached.none[style]);
-        for (size_t code = 0; code < CODES; code++) {
-            printf(", bad format %02zu", code + 1);
+        printf("\n%-12s", styles[style]);
+        for (size_t i = style == COMPACT; i < COUNTS; i++) { /* compact has no empty script */
+            printf("  count %s:", counts[i]);
+            print_reached(reached.counts[style][i]);
+        }
+        for (size_t code = 0; code < CODES && style != COMPACT; code++) {
+            printf("  bad format %02zu:", code + 1);
             print_reached(reached.codes[style][code]);
         }
     }
-    printf("\nstruck out   taken back");
+    printf("\nstruck out    taken back:");
     print_reached(reached.taken_back);
-    printf(", number 5");
+    printf("  number 5:");
     print_reached(reached.number_5);
     printf("\n\n");
     if (missing > 0)

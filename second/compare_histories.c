@@ -28,7 +28,7 @@ static void make_next(struct call *call, const struct card *now)
     call->domain = one_in(24) ? 0xFF : 0x00;
     if (one_in(120))
         call->domain = telling_byte();
-    call->format = (uint8_t)below(2);
+    call->format = below(5) < 3;
     make_script(call, now);
     if (one_in(120))
         call->format = telling_byte();

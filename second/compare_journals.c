@@ -76,7 +76,7 @@ static void spoil(const struct card *card, struct journal_entry *entry)
     const size_t n = number_at(tail + 4), place = number_at(tail + 2);
     const size_t memory = tail[0] == FILE_BYTES ? card->files.length : card->table.length;
 
-    if (tail[0] == TABLE_BYTE && one_in(3)) {
+    if (tail[0] == TABLE_BYTE && one_in(2)) {
         spoil_newest(card, entry);
         return;
     }
@@ -126,7 +126,7 @@ void make_journal(struct card *card, bool spoiled)
             marks--;
         } else if (left == 0 || (marks == 0 && one_in(20))) {
             break;
-        } else if (file != 0 && one_in(3)) {
+        } else if (file != 0 && one_in(spoiled ? 2 : 3)) {
             draw_table_byte(card, file, &entry);
         } else {
             draw_file_bytes(card, left, &entry);

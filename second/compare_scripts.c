@@ -173,21 +173,20 @@ static void short_script(struct maker *maker)
     add_last(maker);
 }
 
-/* One command again and again, or any that fit, up to the most bytes. */
+/* One command about 128 times, or it or any that fit as often as the bytes allow. */
 static void long_script(struct maker *maker)
 {
     static const uint8_t instructions[] = {SELECT, ACTIVATE, READ_BINARY, READ_RECORD, 0};
     const uint8_t again = instructions[below(sizeof instructions)];
+    uint32_t times = one_in(2) ? 125 + below(4) : MOST_SCRIPT;
     struct command command;
 
     maker->most += between(0, 2) - 1;
-    if (one_in(3))
-        maker->most = between(500, maker->most);
     go_to(maker, some_target(maker), NO_DATA);
     draw_command(&command, again, maker->card, current(maker));
     if (again == READ_BINARY)
         command.p3 = (uint8_t)(1 + below(3));
-    while (maker->value.length < maker->most) {
+    for (; times > 0 && maker->value.length < maker->most; times--) {
         if (again == 0)
             draw_command(&command, fitting(maker, false), maker->card, current(maker));
         add_command(maker, &command, RIGHT);
@@ -208,10 +207,12 @@ static bool fills_answers(const uint8_t *entry)
            (entry[AT_NEVER] & 1) == 0 && number_at(entry + AT_LENGTH) >= 8;
 }
 
-/* Reads a file until the R-APDUs kept come close to 1,000 bytes, and a last command. */
+/* Reads a file until the R-APDUs kept come close to 1,000 bytes, or to where their length or the
+ * answer's is written in another form, and a last command. */
 static void full_answer(struct maker *maker)
 {
-    const size_t full = 990 + below(12);
+    static const uint16_t forms[] = {0x76, 0xF6};
+    const size_t full = one_in(4) ? forms[below(2)] + below(16) : 994 + below(8);
     size_t file = some_target(maker), kept = maker->style == AE ? r_apdu_size(0) : 0;
     uint8_t path[2 * MOST_ENTRIES];
 
@@ -228,7 +229,7 @@ static void full_answer(struct maker *maker)
         kept += r_apdu_size(command.p3);
     }
     const uint8_t ins = any_instruction();
-    add_drawn(maker, ins, one_in(3) ? FORM : some_flaw(3));
+    add_drawn(maker, ins, one_in(2) ? FORM : some_flaw(3));
 }
 
 static void noise(struct maker *maker)
@@ -253,7 +254,7 @@ void make_script(struct call *call, const struct card *card)
         long_script(&maker);
     else if (sort == 1)
         noise(&maker);
-    else if (sort < 5 && style != COMPACT)
+    else if (sort < 6 && style != COMPACT)
         full_answer(&maker);
     else
         short_script(&maker);

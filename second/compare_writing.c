@@ -45,10 +45,10 @@ static void add_tlv(struct maker *maker, const uint8_t *apdu, size_t size, bool 
             head[head[1] - 0x7F] = (uint8_t)size;
             head_size = head[1] - 0x7Eu;
             break;
-        case 2: /* an unknown form, or none of 81 and 82 complete */
+        case 2: /* an unknown form, or 81 or 82 with too few bytes or no value after it */
             head[1] = (uint8_t)(0x80 + below(5));
-            head_size = 2 + below(2);
-            size = 0;
+            head_size = 2 + below(3);
+            size = one_in(2) ? size : 0;
             break;
         case 3: /* below 4 */
             size = below(4);

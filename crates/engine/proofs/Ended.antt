@@ -24,7 +24,7 @@ use Rattle.compact.specs.Compact as compact
 use Rattle.compact.proofs.Fits.{outcome-inside}
 use Rattle.compact.proofs.Counts.{count-byte}
 use Rattle.engine.specs.Numbers.{Arguments}
-use Rattle.engine.specs.Calls.{Result, gives, accepted, runScript}
+use Rattle.engine.specs.Calls.{gives, accepted, runScript}
 
 -- a script starts on a sound card with a mark, from an application's root
 starts : (application : ℕ) (card : Card) → soundCard card ≡ true → 1 ≤ scriptsOnTrial (card .journal) → application < entries (card .table) → isRoot (rowOf (card .table) application) ≡ true

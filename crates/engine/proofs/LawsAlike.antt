@@ -1,5 +1,5 @@
 -- A call that is refused, and not with 5, is refused alike on the card that a take-back leaves. Assumes nothing.
-use Prim.Native.Nat.{ℕ, _+_, _-_, _≤_}
+use Prim.Native.Nat.{_+_, _-_, _≤_}
 use mathlib.Core.Path.{_≡_, refl, sym, ap, _∙_}
 use mathlib.Core.Bool.{Bool, true, false, not, _&&_, _||_}
 use native.Mathlib.Omega.{arith}
@@ -22,6 +22,7 @@ use Rattle.engine.specs.Calls.{numbered, run}
 use Rattle.engine.specs.History.{Call, running, takingBack, confirming, given, seen}
 use Rattle.engine.proofs.History.{number}
 use Rattle.engine.proofs.Answers.{confirm-done}
+use Rattle.engine.proofs.Accepted.{firstOf}
 use Rattle.engine.proofs.LawsRefused.{given-seen, script-done, run-number, back-sound, back-card}
 
 -- a take-back gives a mark more room, and keeps which entries are ADFs
@@ -49,9 +50,6 @@ module _ (c : Card) (sound : soundCard c ≡ true) where
       λ i. leb (a .format) 1 && ((eqb (a .application) 0 || (ltb (a .application) (r .count i) && isADF (r .alike (a .application) i))) && (eqb (a .domain) 0x00 || eqb (a .domain) 0xFF))
 
 -- a run that is refused, and not with 5, is refused alike
-abbrev pub firstOf : Bool → Bool → Bool → Bool → Bool → Bool → ℕ
-firstOf s a f r m t = pick (not s) 1 (pick (not a) 2 (pick (not f) 3 (pick r 4 (pick (not m) 5 (pick (not t) 6 0)))))
-
 same-number : (a f r m m′ t : Bool) → (m ≡ true → m′ ≡ true) → (firstOf true a f r m t ≡ 5 → ⊥) → firstOf true a f r m′ t ≡ firstOf true a f r m t
 unfolding pick
 same-number false f r m m′ t h z = refl

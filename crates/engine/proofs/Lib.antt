@@ -2,6 +2,7 @@ pub mod Worked
 pub mod History
 pub mod Answers
 pub mod Refusals
+pub mod Accepted
 pub mod Ended
 pub mod LawsRefused
 pub mod LawsAlike

@@ -2,6 +2,9 @@
 pub mod numbers;
 pub mod scripts;
 
+use numbers::run_number;
+use scripts::run_compact;
+use scripts::run_expanded;
 ghost use mathlib.Core.Path.{_≡_};
 ghost use mathlib.Core.List.{[]};
 ghost use Rattle.card.specs.Row.{lent};
@@ -23,6 +26,44 @@ fn numbered(number: usize) -> Answer
         length: 0,
         count: 0,
     }
+}
+
+// Runs a script.
+pub fn run(
+    application: usize,
+    domain: u8,
+    format: u8,
+    script: &[u8],
+    response: &mut [u8],
+    table: &mut [u8],
+    files: &mut [u8],
+    journal: &mut [u8],
+) -> Answer
+    ensures { λ a. ⌜ spec.gives a (lent (now (table .exit)) (now (files .exit)) (now (journal .exit))) (now (response .exit))
+        ≡ spec.run (record { application = application; domain = domain; format = format; script = now (script .entry); response = now (response .entry) })
+        (lent (now (table .entry)) (now (files .entry)) (now (journal .entry))) ⌝ }
+{
+    let number = run_number(
+        application,
+        domain,
+        format,
+        script,
+        response,
+        table,
+        files,
+        journal,
+    );
+    if number != 0 {
+        return numbered(number);
+    }
+    let used = journal::read::used_bytes(journal);
+    let scripts = journal[2];
+    journal::write::push_mark(journal, used, scripts + 1);
+    let wide = octets::wide(domain);
+    if format == 0 {
+        return run_compact(application, wide, script, response, table, files, journal);
+    }
+    run_expanded(application, wide, script, response, table, files, journal)
 }
 
 // Takes the newest script back.

@@ -34,3 +34,25 @@ pub fn run_compact(
         count: step.count,
     }
 }
+
+// An expanded script.
+pub fn run_expanded(
+    application: usize,
+    domain: usize,
+    script: &[u8],
+    response: &mut [u8],
+    table: &mut [u8],
+    files: &mut [u8],
+    journal: &mut [u8],
+) -> Answer
+    requires { ⌜ (soundCard (lent (now table) (now files) (now journal)) ≡ true) × (1 ≤ scriptsOnTrial (now journal)) × (application < entries (now table)) × (isRoot (rowOf (now table) application) ≡ true) × (length (now script) ≤ 1024) × (1024 ≤ length (now response)) ⌝ }
+    ensures { λ a. ⌜ spec.gives a (lent (now (table .exit)) (now (files .exit)) (now (journal .exit))) (now (response .exit))
+        ≡ spec.runScript formats.Expanded (record { application = application; domain = domain; format = 1; script = now (script .entry); response = now (response .entry) })
+        (lent (now (table .entry)) (now (files .entry)) (now (journal .entry))) ⌝ }
+{
+    Answer {
+        number: 0,
+        length: 0,
+        count: 0,
+    }
+}

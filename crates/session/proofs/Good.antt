@@ -13,10 +13,10 @@ use Rattle.octets.specs.Bytes.{overwrite}
 use Rattle.octets.proofs.Writes.{write-length}
 use Rattle.card.specs.declared.Row.{Row}
 use Rattle.card.specs.declared.tree.Found.the-variants.{At}
-use Rattle.card.specs.Row.{entries, rowOf, isADF, isCyclic, isDirectory, isFile, hasRecords}
+use Rattle.card.specs.Row.{entries, rowOf, isCyclic, isDirectory, isFile, hasRecords}
 use Rattle.card.specs.Sound.{recordCount, soundTable}
 use Rattle.card.specs.Tree.{isRoot, rootIn, rootOf}
-use Rattle.card.proofs.Promises.{some-entries, file-kind, records-some, entry-own, first-kind, no-directory-file, parent-directory}
+use Rattle.card.proofs.Promises.{file-kind, records-some, entry-own, first-kind, no-directory-file, parent-directory}
 use Rattle.card.proofs.Kept.{withBytes, changed-entries, row-alike}
 use Rattle.session.specs.declared.Session.{Session}
 use Rattle.session.specs.Session.{none, mostWaiting, start, dropped, putDown, atRecord, moved, selected}
@@ -142,12 +142,6 @@ module _ (t files : List ℕ) (sound : soundTable t files ≡ true) where
         waiting = refl;
         valid = omega arith;
       }
-
-  pub good-shared : Good t (start 0)
-  good-shared = good-start 0 (some-entries t files sound) (rw (first-kind t files sound 0 (some-entries t files sound) refl))
-
-  pub good-ADF : (a : ℕ) → a < entries t → isADF (rowOf t a) ≡ true → Good t (start a)
-  good-ADF a here h = good-start a here (rw (eqb-true (rowOf t a .kind) 3 h))
 
   -- a selection
   module _ (s : Session) (g : Good t s) (e : ℕ) (b : Belongs t (s .root) e) where

@@ -1,21 +1,16 @@
 -- `compact::run::run` meets its contract: between two commands what is left from here is the whole run. Assumes nothing.
-use mathlib.Core.Path.{_≡_, refl, sym, ap, subst, _∙_}
-use mathlib.Core.Bool.{Bool, true, false}
-use mathlib.Core.List.{List}
-use Prim.Native.Nat.{ℕ, _+_, _-_, _≤_, _<_}
+use mathlib.Core.Path.{_≡_, refl, sym, ap, _∙_}
+use Prim.Native.Nat.{_-_}
 use native.Mathlib.Omega.{arith}
 use lib.ListN.{length}
 use borrow.Author.Needs.{needs}
 use borrow.Author.Tests.{not-true, not-false}
-use Rattle.octets.specs.Bytes.{byte}
-use Rattle.card.specs.Row.{Card, lent}
+use Rattle.card.specs.Row.{lent}
 use Rattle.session.specs.declared.Session.{Session}
-use Rattle.command.specs.declared.Reading.{Reading}
 use Rattle.command.specs.declared.Outcome.the-variants.{Well}
-use Rattle.command.specs.declared.Step.{Step}
-use Rattle.command.specs.Outcomes.{wordOf, goesOn}
+use Rattle.command.specs.Outcomes.{goesOn}
 use Rattle.command.specs.Commands.{started}
-use Rattle.compact.specs.Compact.{readAt, placeAfter}
+use Rattle.compact.specs.Compact.{placeAfter}
 use Rattle.compact.proofs.Going.{Going, begins, ends, stops, goes}
 use Rattle.compact.proofs.run.run.Statement.{statement}
 use Rattle.compact.proofs.run.run.Tie as tie

@@ -1,10 +1,10 @@
 -- `compact::run::step_at` meets its contract: the command that stands there, with its data, is run. Assumes nothing.
-use mathlib.Core.Path.{_≡_, sym, ap, subst, _∙_}
+use mathlib.Core.Path.{_≡_, ap, subst}
 use mathlib.Core.List.{List}
 use Prim.Native.Nat.{ℕ, _+_, _-_}
 use native.Mathlib.Nat.{add-sub-cancel-left}
 use native.Mathlib.Omega.{arith}
-use lib.ListN.{length, take, drop, length-take, length-drop}
+use lib.ListN.{take, drop, length-take}
 use borrow.Author.Needs.{needs}
 use Rattle.octets.specs.Bytes.{part}
 use Rattle.card.specs.Row.{Card, lent}

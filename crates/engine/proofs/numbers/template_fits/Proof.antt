@@ -1,5 +1,5 @@
 -- `engine::numbers::template_fits` meets its contract: each `return` is a case of `templateFits`. Assumes nothing.
-use mathlib.Core.Path.{_≡_, sym, _∙_}
+use mathlib.Core.Path.{sym, _∙_}
 use borrow.Author.Needs.{needs}
 use Rattle.engine.specs.Numbers.{isMissing}
 use Rattle.engine.proofs.Refusals.{compact-fits, expanded-fits}
