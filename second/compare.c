@@ -6,18 +6,26 @@
 #include <stdio.h>
 #include <stdlib.h>
 
+/* Reads a decimal number. */
+static bool read_number(const char *text, unsigned long long *number)
+{
+    char *end;
+
+    *number = strtoull(text, &end, 10);
+    return end != text && *end == '\0';
+}
+
 int main(int count, char **arguments)
 {
     static struct history history;
     struct difference difference;
-    unsigned long long histories = 0, calls = 0;
+    unsigned long long seed, wanted, calls = 0, histories = 0;
 
-    if (count != 3) {
+    if (count != 3 || !read_number(arguments[1], &seed) || !read_number(arguments[2], &wanted)) {
         printf("compare SEED CALLS\n");
         return 3;
     }
-    start_random(strtoull(arguments[1], NULL, 10));
-    const unsigned long long wanted = strtoull(arguments[2], NULL, 10);
+    start_random(seed);
     for (; calls < wanted; calls += history.count, histories++) {
         if (!compare_history(&history, &difference)) {
             printf("compare: a difference after %llu calls\n", calls + difference.call);
@@ -26,7 +34,8 @@ int main(int count, char **arguments)
             return 1;
         }
     }
-    const bool all = print_coverage();
-    printf("compare: seed %s, %llu calls in %llu histories, no difference\n", arguments[1], calls, histories);
-    return all ? 0 : 2;
+    const bool all_reached = print_coverage();
+    printf("compare: seed %llu, %llu calls in %llu histories, no difference\n", seed, calls,
+           histories);
+    return all_reached ? 0 : 2;
 }

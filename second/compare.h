@@ -58,6 +58,14 @@ static inline const uint8_t *entry_of(const struct card *card, size_t number)
 
 static inline bool is_directory(const uint8_t *entry) { return entry[AT_KIND] <= ADF; }
 
+/* The records of a record file; 0 for another entry. */
+static inline unsigned record_count(const uint8_t *entry)
+{
+    const unsigned record_length = entry[AT_RECORD_LENGTH];
+
+    return record_length == 0 ? 0 : number_at(entry + AT_LENGTH) / record_length;
+}
+
 static inline size_t smaller(size_t a, size_t b) { return a < b ? a : b; }
 
 /* ---- Calls and histories ---- */
@@ -96,9 +104,11 @@ struct difference {
     const char *what;
     size_t call;   /* its place in the history */
     bool replayed; /* with the struck-out calls left out */
-    size_t place;
+    size_t place;  /* of the first differing byte; NO_PLACE for a number */
     unsigned long library, expected;
 };
+
+#define NO_PLACE SIZE_MAX
 
 /* ---- compare_random.c ---- */
 void start_random(uint64_t seed);
@@ -139,7 +149,6 @@ typedef void call_maker(struct call *call, const struct card *now);
 bool play(struct history *history, call_maker *next, struct difference *difference);
 const struct answer *library_answer(size_t call);
 const struct answer *second_answer(size_t call);
-void copy_memory(struct memory *to, const struct memory *from);
 
 /* ---- compare_shorten.c, compare_print.c ---- */
 void shorten(struct history *history, struct difference *difference);

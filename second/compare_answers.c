@@ -69,7 +69,8 @@ static bool is_case_2_or_4(const uint8_t *apdu, size_t size)
 
 /* The words of the R-APDUs, each with the command that gave it. AA leaves out those of case 1
  * and 3 and of a bad size before the last command. */
-static bool note_r_apdus(enum style style, struct reader script, struct reader answer, uint32_t count)
+static bool note_r_apdus(enum style style, struct reader script, struct reader answer,
+                         uint32_t count)
 {
     for (; count > 0; count--) {
         const bool last = count == 1;
@@ -89,7 +90,8 @@ static bool note_r_apdus(enum style style, struct reader script, struct reader a
             return false;
         const size_t length = take_length(&answer);
         const uint8_t *r_apdu = take(&answer, length);
-        if (!answer.fits || length < 2 || !note_word(style, apdu[1], number_at(r_apdu + length - 2)))
+        if (!answer.fits || length < 2 ||
+            !note_word(style, apdu[1], number_at(r_apdu + length - 2)))
             return false;
     }
     return answer.left == 0;
@@ -123,14 +125,17 @@ static bool note_expanded(const struct script *script, const uint8_t *response, 
 /* Notes what a call's answer shows; false if no answer of the paper can look so. */
 bool note_answer(const struct call *call, const struct answer *answer)
 {
-    const uint32_t count = RFM_COUNT(answer->result);
+    const unsigned number = RFM_NUMBER(answer->result);
+    const uint32_t count = RFM_COUNT(answer->result), length = RFM_LENGTH(answer->result);
 
-    if (RFM_LENGTH(answer->result) > call->response_length || !note_number(call->kind, RFM_NUMBER(answer->result)))
+    if (!note_number(call->kind, number))
         return false;
-    if (call->kind != RUN || RFM_NUMBER(answer->result) != 0)
-        return true;
+    if (call->kind != RUN || number != 0)
+        return length == 0 && count == 0;
+    if (length > call->response_length)
+        return false;
     if (call->format == 1)
-        return note_expanded(&call->script, answer->response, RFM_LENGTH(answer->result), count);
+        return note_expanded(&call->script, answer->response, length, count);
     note_count(COMPACT, count);
     return note_compact(&call->script, answer->response, count);
 }

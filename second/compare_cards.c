@@ -97,7 +97,7 @@ static size_t make_entry(struct card *card, size_t number, bool deep, size_t mos
     }
     entry[AT_PARENT] = some_directory(card, number, deep && !one_in(4));
     put_number(entry, free_identifier(card, number, entry[AT_PARENT]));
-    entry[AT_KIND] = (uint8_t)(one_in(4) ? DF : TRANSPARENT + below(3));
+    entry[AT_KIND] = (uint8_t)(one_in(deep ? 2 : 4) ? DF : TRANSPARENT + below(3));
     return is_directory(entry) ? 0 : make_file(entry, most);
 }
 
@@ -165,8 +165,10 @@ void make_card(struct card *card, size_t entries)
 
     card->table.length = entries * ENTRY_SIZE;
     mark_margin(&card->table);
-    for (size_t number = 0; number <= entries; number++)
-        lengths += make_entry(card, number, deep, lengths < MOST_LENGTHS ? MOST_LENGTHS - lengths : 1);
+    for (size_t number = 0; number <= entries; number++) {
+        const size_t most = lengths < MOST_LENGTHS ? MOST_LENGTHS - lengths : 1;
+        lengths += make_entry(card, number, deep, most);
+    }
     lay_out(card);
     fill_files(&card->files);
     mark_margin(&card->files);

@@ -3,7 +3,7 @@
 
 #include <string.h>
 
-/* Draws data bytes: all the same but for one, or any. */
+/* Draws data bytes, all the same but for the last. */
 static void draw_data(struct command *command)
 {
     memset(command->data, telling_byte(), command->p3);
@@ -11,6 +11,7 @@ static void draw_data(struct command *command)
         command->data[command->p3 - 1] = telling_byte();
 }
 
+/* Puts an offset into P1 and P2. */
 static void set_offset(struct command *command, size_t offset)
 {
     command->p1 = (uint8_t)(offset >> 8);
@@ -36,33 +37,35 @@ static void draw_binary(struct command *command, size_t length)
 static void draw_record(struct command *command, const struct card *card, const uint8_t *entry)
 {
     const size_t record_length = entry[AT_RECORD_LENGTH], length = number_at(entry + AT_LENGTH);
+    const size_t first = one_in(3) ? 0 : 1, last = record_count(entry);
 
     switch (command->ins) {
     case READ_RECORD:
     case UPDATE_RECORD:
         command->p2 = (uint8_t)(NEXT + below(3));
-        if (command->ins == UPDATE_RECORD && entry[AT_KIND] == CYCLIC)
+        if (command->ins == UPDATE_RECORD && entry[AT_KIND] == CYCLIC && !one_in(8))
             command->p2 = PREVIOUS;
         if (command->p2 == ABSOLUTE)
-            command->p1 = (uint8_t)between(one_in(3) ? 0 : 1, length / record_length);
+            command->p1 = (uint8_t)between(first, last);
         command->p3 = (uint8_t)record_length;
         if (command->ins == READ_RECORD && one_in(2))
             command->p3 = 0;
         draw_data(command);
         break;
     case SEARCH:
-        command->p1 = (uint8_t)between(one_in(3) ? 0 : 1, length / record_length);
+        command->p1 = (uint8_t)between(first, last);
         command->p2 = (uint8_t)(one_in(2) ? FORWARD : BACKWARD);
-        command->p3 = (uint8_t)(one_in(4) ? record_length : 1 + below((uint32_t)smaller(record_length, 2)));
+        command->p3 = (uint8_t)(one_in(4) ? record_length : smaller(record_length, 1 + below(2)));
         draw_data(command);
         if (!one_in(4)) { /* what the file holds */
+            const size_t start = number_at(entry + AT_START);
             const size_t offset = below((uint32_t)(length - command->p3) + 1);
-            memcpy(command->data, card->files.at + number_at(entry + AT_START) + offset, command->p3);
+            memcpy(command->data, card->files.at + start + offset, command->p3);
         }
         break;
     default: /* INCREASE */
         command->p3 = (uint8_t)between(1, record_length);
-        memset(command->data, one_in(6) ? 0xFF : 0x00, command->p3);
+        memset(command->data, one_in(4) ? 0xFF : 0x00, command->p3);
         command->data[command->p3 - 1] = telling_byte();
         break;
     }
@@ -137,8 +140,7 @@ static void misplace(struct command *command, const uint8_t *entry)
     if (command->ins == READ_BINARY || command->ins == UPDATE_BINARY) {
         set_offset(command, one_in(4) ? 0x7FFF : length + below(2));
     } else {
-        command->p1 = (uint8_t)(entry[AT_RECORD_LENGTH] > 0 && !one_in(3)
-                                    ? length / entry[AT_RECORD_LENGTH] + 1 : telling_byte());
+        command->p1 = (uint8_t)(one_in(3) ? telling_byte() : record_count(entry) + 1);
         if (command->ins != SEARCH)
             command->p2 = ABSOLUTE;
     }

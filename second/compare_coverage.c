@@ -45,8 +45,9 @@ static bool allowed(enum style style, size_t row, size_t column)
 enum { NUMBERS = 8 };
 static const struct {
     const char *name, *allowed;
-} calls[CALL_KINDS] = {
-    [RUN] = {"run", "yyyyyyy."}, [TAKE_BACK] = {"take-back", "yy.....y"}, [CONFIRM] = {"confirm", "yy......"}};
+} calls[CALL_KINDS] = {[RUN] = {"run", "yyyyyyy."},
+                       [TAKE_BACK] = {"take-back", "yy.....y"},
+                       [CONFIRM] = {"confirmation", "yy......"}};
 
 enum { CODES = 3, COUNTS = 4 };
 
@@ -117,8 +118,10 @@ static void print_reached(unsigned long times)
     missing += times == 0;
     if (times == 0)
         printf(" %6s", "NONE");
-    else
+    else if (times < 1000000)
         printf(" %6lu", times);
+    else
+        printf(" %5luk", times / 1000);
 }
 
 static void print_pairs(enum style style)

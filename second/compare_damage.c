@@ -36,7 +36,7 @@ static void move_file(struct card *card)
 static void push_byte(struct card *card)
 {
     uint8_t *entry = entry_at(card, some_entry(card, TRANSPARENT));
-    const unsigned records = entry[AT_RECORD_LENGTH] == 0 ? 1 : number_at(entry + AT_LENGTH) / entry[AT_RECORD_LENGTH];
+    const unsigned records = record_count(entry);
 
     switch (below(5)) {
     case 0:

@@ -4,39 +4,57 @@
 /* One call in so many is a take-back, in the present history. */
 static uint32_t take_backs;
 
-/* An application: mostly 0 or an ADF's entry number. */
-static size_t some_application(const struct card *card)
+/* An application: 0 or an ADF's entry number, or another number. */
+static size_t some_application(const struct card *card, bool wrong)
 {
     size_t number = below((uint32_t)entries_of(card) + 1);
 
-    if (one_in(40))
+    if (wrong)
         return one_in(2) ? number : number + ((size_t)1 << 8 * (1 + below(7)));
     while (number > 0 && (number == entries_of(card) || entry_of(card, number)[AT_KIND] != ADF))
         number--;
     return one_in(3) ? 0 : number;
 }
 
-/* Makes a run, a take-back or a confirmation. */
-static void make_next(struct call *call, const struct card *now)
+/* Makes a script empty or one byte too long. */
+static void misfit(struct script *script)
 {
-    const bool full = now->journal.at[2] == MOST_TRIALS || number_at(now->journal.at) + TAIL_SIZE > MOST_USED;
+    const size_t length = one_in(2) ? 0 : MOST_SCRIPT + 1;
 
-    call->kind = one_in(full ? 2 : take_backs) ? TAKE_BACK : one_in(30) ? CONFIRM : RUN;
-    if (call->kind != RUN)
-        return;
-    call->application = some_application(now);
+    while (script->length < length)
+        script->at[script->length++] = 0;
+    script->length = length;
+}
+
+/* Makes a run. Wrong arguments are rare, but often do not come alone. */
+static void make_run(struct call *call, const struct card *now)
+{
+    const uint32_t wrong = one_in(20) ? 3 : 200;
+
+    call->application = some_application(now, one_in(wrong));
     call->domain = one_in(24) ? 0xFF : 0x00;
-    if (one_in(120))
+    if (one_in(wrong))
         call->domain = telling_byte();
     call->format = below(5) < 3;
     make_script(call, now);
-    if (one_in(120))
+    if (one_in(wrong))
         call->format = telling_byte();
-    call->response_length = LEAST_RESPONSE;
-    if (one_in(3))
-        call->response_length += below(SPARE + 1);
-    if (one_in(60))
+    if (one_in(wrong))
+        misfit(&call->script);
+    call->response_length = LEAST_RESPONSE + (one_in(3) ? below(SPARE + 1) : 0);
+    if (one_in(wrong))
         call->response_length = between(0, LEAST_RESPONSE - 1);
+}
+
+/* Makes a run, a take-back or a confirmation. */
+static void make_next(struct call *call, const struct card *now)
+{
+    const uint8_t *journal = now->journal.at;
+    const bool full = journal[2] == MOST_TRIALS || number_at(journal) + TAIL_SIZE > MOST_USED;
+
+    call->kind = one_in(full ? 2 : take_backs) ? TAKE_BACK : one_in(30) ? CONFIRM : RUN;
+    if (call->kind == RUN)
+        make_run(call, now);
 }
 
 /* Makes a history of calls that follow the card as it changes, and plays it. */

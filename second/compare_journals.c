@@ -55,7 +55,7 @@ static void draw_table_byte(const struct card *card, size_t file, struct journal
     entry->tail[0] = TABLE_BYTE;
     put_number(entry->tail + 2, file * ENTRY_SIZE + (newest ? AT_NEWEST : AT_STATE));
     entry->tail[5] = 1;
-    entry->old[0] = (uint8_t)(newest ? between(0, number_at(of + AT_LENGTH) / of[AT_RECORD_LENGTH] - 1)
+    entry->old[0] = (uint8_t)(newest ? between(0, record_count(of) - 1)
                                      : between(DEACTIVATED, ACTIVATED));
 }
 
@@ -65,7 +65,7 @@ static void spoil_newest(const struct card *card, struct journal_entry *entry)
     const uint8_t *of = entry_of(card, number_at(entry->tail + 2) / ENTRY_SIZE);
 
     entry->tail[3] = (uint8_t)((entry->tail[3] & 0xF0) | AT_NEWEST);
-    entry->old[0] = (uint8_t)(of[AT_KIND] == CYCLIC ? number_at(of + AT_LENGTH) / of[AT_RECORD_LENGTH] : 0);
+    entry->old[0] = (uint8_t)(of[AT_KIND] == CYCLIC ? record_count(of) : 0);
 }
 
 /* Changes one field of an entry so that it is mostly just not sound. */
@@ -97,9 +97,12 @@ static void spoil(const struct card *card, struct journal_entry *entry)
         put_number(tail + 2, some_entry(card, DF) * ENTRY_SIZE + AT_STATE);
         break;
     case 5: /* one old byte too many, or a wrong number of them */
-        put_number(tail + 4, one_in(2) ? MOST_OLD + 1 : n == 1 ? below(3) : 0);
-        if (number_at(tail + 4) > MOST_OLD)
+        if (card->files.length > MOST_OLD) {
             put_number(tail + 2, 0);
+            put_number(tail + 4, MOST_OLD + 1);
+        } else {
+            put_number(tail + 4, n == 1 ? below(3) : 0);
+        }
         break;
     default: /* an old value not sound there */
         entry->old[0] = one_in(2) ? 3 + (uint8_t)below(4) : telling_byte();
@@ -114,7 +117,7 @@ void make_journal(struct card *card, bool spoiled)
     const size_t most = one_in(2) ? MOST_USED - below(45) : between(TAIL_SIZE, MOST_USED);
     const uint32_t spacing = 1 + below(12);
     size_t marks = spoiled && one_in(8) ? MOST_TRIALS + 1 : between(1, MOST_TRIALS);
-    bool first = !spoiled || !one_in(8);
+    bool first = !spoiled || !one_in(4);
     struct journal_entry entry;
 
     memset(card->journal.at, 0, JOURNAL_SIZE);

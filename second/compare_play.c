@@ -7,9 +7,10 @@
 #include "rfm.h"
 #include "second.h"
 
+/* The three calls of one of the two programs. */
 struct program {
-    uint64_t (*run)(uint8_t *, size_t, uint8_t *, size_t, uint8_t *, size_t, size_t, uint8_t, uint8_t,
-                    const uint8_t *, size_t, uint8_t *, size_t);
+    uint64_t (*run)(uint8_t *, size_t, uint8_t *, size_t, uint8_t *, size_t, size_t, uint8_t,
+                    uint8_t, const uint8_t *, size_t, uint8_t *, size_t);
     uint64_t (*take_back)(uint8_t *, size_t, uint8_t *, size_t, uint8_t *, size_t);
     uint64_t (*confirm)(uint8_t *, size_t, uint8_t *, size_t, uint8_t *, size_t);
 };
@@ -17,13 +18,14 @@ struct program {
 static const struct program library = {rfm_run, rfm_take_back, rfm_confirm};
 static const struct program second = {second_run, second_take_back, second_confirm};
 
+/* The answers to the calls of the history that was played last. */
 static struct answer library_answers[MOST_CALLS], second_answers[MOST_CALLS];
 
 const struct answer *library_answer(size_t call) { return &library_answers[call]; }
 const struct answer *second_answer(size_t call) { return &second_answers[call]; }
 
 /* Copies a lent memory and its margin. */
-void copy_memory(struct memory *to, const struct memory *from)
+static void copy_memory(struct memory *to, const struct memory *from)
 {
     to->length = from->length;
     memcpy(to->at, from->at, from->length + MARGIN);
@@ -52,33 +54,34 @@ static void make_call(const struct program *program, struct card *card, const st
                       struct answer *answer)
 {
     static struct script script;
-    uint8_t *const table = card->table.at, *const files = card->files.at, *const journal = card->journal.at;
-    const size_t table_length = card->table.length, files_length = card->files.length,
-                 journal_length = card->journal.length;
+    struct memory *const t = &card->table, *const f = &card->files, *const j = &card->journal;
 
     fill_response(answer->response);
     answer->script_kept = true;
     switch (call->kind) {
     case RUN:
-        memcpy(script.at, call->script.at, call->script.length);
-        answer->result = program->run(table, table_length, files, files_length, journal, journal_length,
+        script.length = call->script.length;
+        memcpy(script.at, call->script.at, script.length);
+        answer->result = program->run(t->at, t->length, f->at, f->length, j->at, j->length,
                                       call->application, call->domain, call->format, script.at,
-                                      call->script.length, answer->response, call->response_length);
-        answer->script_kept = memcmp(script.at, call->script.at, call->script.length) == 0;
+                                      script.length, answer->response, call->response_length);
+        answer->script_kept = memcmp(script.at, call->script.at, script.length) == 0;
         break;
     case TAKE_BACK:
-        answer->result = program->take_back(table, table_length, files, files_length, journal, journal_length);
+        answer->result =
+            program->take_back(t->at, t->length, f->at, f->length, j->at, j->length);
         break;
     default:
-        answer->result = program->confirm(table, table_length, files, files_length, journal, journal_length);
+        answer->result = program->confirm(t->at, t->length, f->at, f->length, j->at, j->length);
         break;
     }
 }
 
 /* ---- Comparing ---- */
 
-static bool differ(struct difference *difference, const char *what, size_t place, unsigned long library,
-                   unsigned long expected)
+/* Keeps a difference; answers false. */
+static bool differ(struct difference *difference, const char *what, size_t place,
+                   unsigned long library, unsigned long expected)
 {
     difference->what = what;
     difference->place = place;
@@ -90,11 +93,11 @@ static bool differ(struct difference *difference, const char *what, size_t place
 static bool same_value(const char *what, unsigned long library, unsigned long expected,
                        struct difference *difference)
 {
-    return library == expected || differ(difference, what, 0, library, expected);
+    return library == expected || differ(difference, what, NO_PLACE, library, expected);
 }
 
-static bool same_bytes(const char *what, const uint8_t *library, const uint8_t *expected, size_t length,
-                       struct difference *difference)
+static bool same_bytes(const char *what, const uint8_t *library, const uint8_t *expected,
+                       size_t length, struct difference *difference)
 {
     size_t place = 0;
 
@@ -105,14 +108,18 @@ static bool same_bytes(const char *what, const uint8_t *library, const uint8_t *
     return differ(difference, what, place, library[place], expected[place]);
 }
 
-/* Compares number, length, count and the whole response memory; the script is as it was. */
-static bool same_answer(const struct answer *a, const struct answer *b, struct difference *difference)
+/* Compares number, count, length and the whole response memory; the script is as it was. */
+static bool same_answer(const struct answer *library, const struct answer *expected,
+                        struct difference *difference)
 {
-    return same_value("number", RFM_NUMBER(a->result), RFM_NUMBER(b->result), difference) &&
-           same_value("count", RFM_COUNT(a->result), RFM_COUNT(b->result), difference) &&
-           same_value("length", RFM_LENGTH(a->result), RFM_LENGTH(b->result), difference) &&
-           same_bytes("response memory", a->response, b->response, sizeof a->response, difference) &&
-           same_value("script kept", a->script_kept, true, difference);
+    const uint64_t a = library->result, b = expected->result;
+
+    return same_value("number", RFM_NUMBER(a), RFM_NUMBER(b), difference) &&
+           same_value("count", RFM_COUNT(a), RFM_COUNT(b), difference) &&
+           same_value("length", RFM_LENGTH(a), RFM_LENGTH(b), difference) &&
+           same_bytes("response memory", library->response, expected->response,
+                      sizeof library->response, difference) &&
+           same_value("script kept", library->script_kept, true, difference);
 }
 
 static bool same_memory(const char *what, const struct memory *a, const struct memory *b,
@@ -155,7 +162,8 @@ static size_t strike_out(const struct history *history, bool *struck)
 
 /* Plays the history on the library without the struck-out calls: the same answers and, at the
  * end, the same card. */
-static bool replay(const struct history *history, const struct card *end, struct difference *difference)
+static bool replay(const struct history *history, const struct card *end,
+                   struct difference *difference)
 {
     static struct card card;
     static struct answer answer;

@@ -2,6 +2,7 @@
 #include "compare.h"
 
 #include <stdio.h>
+#include <string.h>
 
 #include "rfm.h"
 
@@ -11,21 +12,20 @@ static void print_hex(const uint8_t *at, size_t length)
         printf("%02X", at[i]);
 }
 
-/* Prints bytes in lines; zeros at the end are only counted. */
-static void print_memory(const char *what, const struct memory *memory, size_t line)
+/* Prints a memory in lines; those of zeros only are left out. */
+static void print_memory(const char *what, const struct memory *memory)
 {
-    size_t end = memory->length;
+    static const uint8_t zeros[2 * ENTRY_SIZE];
 
-    while (end > 0 && memory->at[end - 1] == 0)
-        end--;
-    printf("%s, %zu bytes:\n", what, memory->length);
-    for (size_t at = 0; at < end; at += line) {
+    printf("%s, %zu bytes\n", what, memory->length);
+    for (size_t at = 0; at < memory->length; at += sizeof zeros) {
+        const size_t bytes = smaller(sizeof zeros, memory->length - at);
+        if (memcmp(memory->at + at, zeros, bytes) == 0)
+            continue;
         printf("  %5zu  ", at);
-        print_hex(memory->at + at, smaller(line, end - at));
+        print_hex(memory->at + at, bytes);
         printf("\n");
     }
-    if (end < memory->length)
-        printf("  %5zu  zeros\n", end);
 }
 
 static void print_answer(const char *whose, const struct answer *answer)
@@ -44,8 +44,8 @@ static void print_call(const struct history *history, size_t i)
 
     printf("call %zu: %s", i + 1, names[call->kind]);
     if (call->kind == RUN) {
-        printf(", application %zu, domain %02X, format %u, response memory %zu bytes, script of %zu bytes ",
-               call->application, call->domain, call->format, call->response_length, call->script.length);
+        printf(", application %zu, domain %02X, format %u, response memory %zu bytes\n  script: ",
+               call->application, call->domain, call->format, call->response_length);
         print_hex(call->script.at, call->script.length);
     }
     printf("\n");
@@ -53,16 +53,24 @@ static void print_call(const struct history *history, size_t i)
     print_answer("second ", second_answer(i));
 }
 
+static void print_difference(const struct difference *difference)
+{
+    printf("difference%s in call %zu: %s",
+           difference->replayed ? " without the struck-out calls" : "", difference->call + 1,
+           difference->what);
+    if (difference->place != NO_PLACE)
+        printf(", byte %zu", difference->place);
+    printf(": library %lX, %s %lX\n", difference->library,
+           difference->replayed ? "without them" : "expected", difference->expected);
+}
+
 /* Prints the card, the calls and the first difference. */
 void print_history(const struct history *history, const struct difference *difference)
 {
-    print_memory("table", &history->start.table, ENTRY_SIZE);
-    print_memory("file memory", &history->start.files, 32);
-    print_memory("journal", &history->start.journal, 32);
+    print_memory("table", &history->start.table);
+    print_memory("file memory", &history->start.files);
+    print_memory("journal", &history->start.journal);
     for (size_t i = 0; i < history->count; i++)
         print_call(history, i);
-    printf("difference%s: call %zu, %s, place %zu: library %lX, %s %lX\n",
-           difference->replayed ? " without the struck-out calls" : "", difference->call + 1,
-           difference->what, difference->place, difference->library,
-           difference->replayed ? "without them" : "expected", difference->expected);
+    print_difference(difference);
 }

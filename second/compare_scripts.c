@@ -77,7 +77,9 @@ static void add_last(struct maker *maker)
 
 /* ---- Going to a file ---- */
 
-static void add_select(struct maker *maker, uint8_t p1, const uint8_t *path, size_t length, uint8_t p2)
+/* Adds a right SELECT. */
+static void add_select(struct maker *maker, uint8_t p1, const uint8_t *path, size_t length,
+                       uint8_t p2)
 {
     struct command command = {.ins = SELECT, .p1 = p1, .p2 = p2, .p3 = (uint8_t)length};
 
@@ -119,19 +121,20 @@ static bool lies_below(const struct card *card, size_t directory, size_t entry)
 /* Selects an entry by a path, step by step, or by its identifier alone. */
 static void go_to(struct maker *maker, size_t entry, uint8_t p2)
 {
-    const uint8_t *root = entry_of(maker->card, maker->root), *target = entry_of(maker->card, entry);
+    const struct card *card = maker->card;
+    const uint8_t *target = entry_of(card, entry);
     const uint32_t way = below(4);
     uint8_t path[2 * MOST_ENTRIES];
-    size_t length = path_to(maker->card, maker->root, entry, path);
+    size_t length = path_to(card, maker->root, entry, path);
 
     if (length == 0 || (way == 0 && (target[AT_PARENT] == maker->directory || one_in(3)))) {
         add_select(maker, FROM_ANYWHERE, target, 2, p2);
     } else if (way == 1) {
-        add_select(maker, FROM_ANYWHERE, root, 2, NO_DATA);
+        add_select(maker, FROM_ANYWHERE, entry_of(card, maker->root), 2, NO_DATA);
         for (size_t at = 0; at < length; at += 2)
             add_select(maker, FROM_ANYWHERE, path + at, 2, p2);
-    } else if (way == 2 && entry != maker->directory && lies_below(maker->card, maker->directory, entry)) {
-        length = path_to(maker->card, maker->directory, entry, path);
+    } else if (way == 2 && entry != maker->directory && lies_below(card, maker->directory, entry)) {
+        length = path_to(card, maker->directory, entry, path);
         add_select(maker, PATH_FROM_DIRECTORY, path, length, p2);
     } else {
         add_select(maker, PATH_FROM_ROOT, path, length, p2);
@@ -165,7 +168,8 @@ static void short_script(struct maker *maker)
     const bool none = one_in(maker->closed ? 2 : 12);
 
     for (uint32_t files = none ? 0 : 1 + below(2); files > 0; files--) {
-        const size_t target = one_in(16) ? below((uint32_t)entries_of(maker->card)) : some_target(maker);
+        const uint32_t any = below((uint32_t)entries_of(maker->card));
+        const size_t target = one_in(16) ? any : some_target(maker);
         go_to(maker, target, one_in(3) ? WITH_FCP : NO_DATA);
         for (uint32_t commands = below(4); commands > 0; commands--)
             add_fitting(maker, some_flaw(30));
@@ -193,6 +197,7 @@ static void long_script(struct maker *maker)
     }
 }
 
+/* The size of an R-APDU with so many bytes of data. */
 static size_t r_apdu_size(size_t data)
 {
     uint8_t length[3];
@@ -232,6 +237,7 @@ static void full_answer(struct maker *maker)
     add_drawn(maker, ins, one_in(2) ? FORM : some_flaw(3));
 }
 
+/* Bytes without a meaning, or none. */
 static void noise(struct maker *maker)
 {
     for (uint32_t bytes = below(40); bytes > 0; bytes--) {

@@ -4,7 +4,8 @@
 #include <string.h>
 
 /* Takes the shorter history over if it shows a difference too. */
-static bool take_over(struct history *history, struct history *shorter, struct difference *difference)
+static bool take_over(struct history *history, struct history *shorter,
+                      struct difference *difference)
 {
     struct difference found;
 
@@ -72,13 +73,55 @@ static bool shorten_scripts(struct history *history, struct difference *differen
     return dropped;
 }
 
-/* Shortens a history as far as dropping calls and parts of scripts leads. */
+/* Drops the last entries of the table, and file memory at its end, that are not needed. */
+static void shorten_card(struct history *history, struct difference *difference)
+{
+    static struct history shorter;
+    bool dropped = true;
+
+    while (dropped && history->start.table.length > ENTRY_SIZE) {
+        shorter = *history;
+        shorter.start.table.length -= ENTRY_SIZE;
+        dropped = take_over(history, &shorter, difference);
+    }
+    for (size_t bytes = history->start.files.length / 2; bytes > 0; bytes /= 2) {
+        shorter = *history;
+        shorter.start.files.length -= bytes;
+        take_over(history, &shorter, difference);
+    }
+}
+
+/* Sets parts of file memory or of the journal to zero, large parts first, that are not needed. */
+static void clear_parts(struct history *history, bool journal, struct difference *difference)
+{
+    static struct history shorter;
+    struct memory *const from = journal ? &history->start.journal : &history->start.files;
+    struct memory *const to = journal ? &shorter.start.journal : &shorter.start.files;
+
+    for (size_t part = from->length; part > 0; part /= 2) {
+        for (size_t at = 0; at < from->length; at += part) {
+            const size_t bytes = smaller(part, from->length - at);
+            shorter = *history;
+            memset(to->at + at, 0, bytes);
+            if (memcmp(to->at + at, from->at + at, bytes) != 0)
+                take_over(history, &shorter, difference);
+        }
+    }
+}
+
+/* Shortens a history as far as dropping calls, parts of scripts and of the card leads, and plays
+ * it once more, so that its answers are those to be printed. */
 void shorten(struct history *history, struct difference *difference)
 {
+    struct difference again;
     bool shorter = true;
 
     while (shorter) {
         shorter = drop_calls(history, difference);
         shorter = shorten_scripts(history, difference) || shorter;
     }
+    shorten_card(history, difference);
+    clear_parts(history, true, difference);
+    clear_parts(history, false, difference);
+    play(history, NULL, &again);
 }

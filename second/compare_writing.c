@@ -117,19 +117,21 @@ void wrap(struct script *script, enum style style, const struct script *value)
 /* Takes the value of a run's script out of its template; what is none is taken as compact. */
 enum style unwrap(const struct call *call, struct script *value)
 {
+    static const struct {
+        enum style style;
+        size_t head, tail;
+    } forms[] = {{AE, 2, 2}, {AA, 2, 0}, {AA, 3, 0}, {AA, 4, 0}};
     const struct script *script = &call->script;
     struct script again;
 
-    for (enum style style = AE; style > COMPACT && call->format == 1; style--) {
-        const size_t length = script->length, head = style == AE ? 2 : length < 0x82 ? 2 : length < 0x103 ? 3 : 4;
-        const size_t around = style == AE ? 4 : head;
-        if (length < around)
+    for (size_t i = 0; i < sizeof forms / sizeof forms[0] && call->format == 1; i++) {
+        if (script->length < forms[i].head + forms[i].tail)
             continue;
-        value->length = length - around;
-        memcpy(value->at, script->at + head, value->length);
-        wrap(&again, style, value);
-        if (again.length == length && memcmp(again.at, script->at, length) == 0)
-            return style;
+        value->length = script->length - forms[i].head - forms[i].tail;
+        memcpy(value->at, script->at + forms[i].head, value->length);
+        wrap(&again, forms[i].style, value);
+        if (again.length == script->length && memcmp(again.at, script->at, again.length) == 0)
+            return forms[i].style;
     }
     *value = *script;
     return COMPACT;

@@ -1,15 +1,18 @@
--- What the two calls without a script give, case by case. Assumes nothing.
-use mathlib.Core.Path.{_≡_}
+-- What the two calls without a script give, case by case, and that their answers are small. Assumes nothing.
+use Prim.Native.Nat.{ℕ, _<_}
+use mathlib.Core.Path.{_≡_, sym, subst}
 use mathlib.Core.Bool.{true, false}
 use mathlib.Core.List.{[]}
+use native.Mathlib.Omega.{arith}
 use borrow.Author.Tests.{eq-eqb, ne-eqb}
 use Rattle.octets.specs.Choice.{pick}
 use Rattle.card.specs.Row.{Card}
 use Rattle.journal.specs.Entries.{scriptsOnTrial}
 use Rattle.journal.specs.Sound.{soundCard}
 use Rattle.journal.specs.Changes.{takenBack, confirmed}
+use Rattle.engine.specs.declared.Answer.{Answer}
 use Rattle.engine.specs.Numbers.{firstGiven, notSound, takeBackRefusals, confirmRefusals}
-use Rattle.engine.specs.Calls.{gives, numbered, unlessRefused, takeBack, confirm}
+use Rattle.engine.specs.Calls.{gives, numbered, Small, unlessRefused, takeBack, confirm}
 
 module _ (c : Card) where
   pub back-unsound : soundCard c ≡ false → takeBack c ≡ gives (numbered 1) c []
@@ -31,3 +34,7 @@ module _ (c : Card) where
   pub confirm-done : soundCard c ≡ true → confirm c ≡ gives (numbered 0) (confirmed c) []
   unfolding confirm unlessRefused firstGiven confirmRefusals notSound pick
   confirm-done sound = rw sound
+
+-- a number alone is small
+pub numbered-small : (a : Answer) (n : ℕ) → a ≡ numbered n → n < 256 → Small a
+numbered-small a n e h = subst Small (sym e) (h, omega arith, omega arith)

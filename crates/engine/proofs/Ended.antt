@@ -1,11 +1,15 @@
 -- What a script comes to at its end: its answer has room, and with it the result is the definition's. Assumes nothing.
 use mathlib.Core.Path.{_≡_, refl, sym, ap, subst, _∙_}
-use mathlib.Core.Bool.{true}
-use mathlib.Core.List.{List}
+use mathlib.Core.Bool.{Bool, true, false}
+use mathlib.Core.List.{List, [], _∷_, _++_}
 use Prim.Native.Nat.{ℕ, _+_, _≤_, _<_}
 use native.Mathlib.Omega.{arith}
-use lib.ListN.{length}
-use Rattle.octets.specs.Bytes.{byte, overwrite}
+use lib.Dec.{ltb}
+use lib.ListN.{length, take, length-append}
+use lib.Seq.{take-add}
+use Rattle.octets.specs.Choice.{pick}
+use Rattle.octets.specs.Bytes.{byte, bytes2, overwrite}
+use Rattle.octets.proofs.Writes.{write-none}
 use Rattle.card.specs.Row.{Card, entries, rowOf}
 use Rattle.card.specs.Tree.{isRoot}
 use Rattle.journal.specs.Entries.{scriptsOnTrial}
@@ -14,17 +18,28 @@ use Rattle.journal.specs.Changes.{takenBack}
 use Rattle.journal.proofs.Parts.{card-table}
 use Rattle.session.specs.Session.{start}
 use Rattle.session.proofs.Good.{good-start}
-use Rattle.command.specs.declared.Format.the-variants.{Compact}
+use Rattle.session.proofs.Owned.{on-pick}
+use Rattle.command.specs.declared.Format.the-variants.{Compact, Expanded}
 use Rattle.command.specs.declared.Step.{Step}
 use Rattle.command.specs.Outcomes.{dataCount, OutcomeFits}
-use Rattle.command.specs.Commands.{State, stateOf}
+use Rattle.command.specs.Commands.{State, stateOf, started}
 use Rattle.command.proofs.Keeps.{Holds}
 use Rattle.command.proofs.Outgoing.{data-few}
 use Rattle.compact.specs.Compact as compact
+use Rattle.compact.proofs.Runs.{run-keeps}
 use Rattle.compact.proofs.Fits.{outcome-inside}
+use Rattle.compact.proofs.Answered.{answer-length}
 use Rattle.compact.proofs.Counts.{count-byte}
+use Rattle.expanded.specs.declared.template.Template.{Template}
+use Rattle.expanded.specs.declared.template.Template.the-variants.{Definite, Indefinite, Missing}
+use Rattle.expanded.specs.declared.run.Gathered.{Gathered}
+use Rattle.expanded.specs.Lengths.{lengthBytes, countBytes}
+use Rattle.expanded.specs.Templates.{templateOf, TemplateFits}
+use Rattle.expanded.specs.Expanded as expanded
+use Rattle.expanded.specs.Expanded.{Progress}
+use Rattle.expanded.proofs.Written.{length-few}
 use Rattle.engine.specs.Numbers.{Arguments}
-use Rattle.engine.specs.Calls.{gives, accepted, runScript}
+use Rattle.engine.specs.Calls.{gives, numbered, Small, accepted, runValue, runScript}
 
 -- a script starts on a sound card with a mark, from an application's root
 starts : (application : ℕ) (card : Card) → soundCard card ≡ true → 1 ≤ scriptsOnTrial (card .journal) → application < entries (card .table) → isRoot (rowOf (card .table) application) ≡ true
@@ -36,14 +51,26 @@ starts application card sound trial here root =
 pub compact-room : (script : List ℕ) → ((i : ℕ) → byte script i < 256) → (application domain : ℕ) (card : Card)
     → soundCard card ≡ true → 1 ≤ scriptsOnTrial (card .journal) → application < entries (card .table) → isRoot (rowOf (card .table) application) ≡ true → length script ≤ 1024
     → (step : Step) (after : Card) → stateOf step after ≡ compact.run script application domain card
-    → (response : ℕ) → 1024 ≤ response → OutcomeFits (length (after .files)) (step .outcome) × (step .count < 256) × (3 + dataCount (step .outcome) ≤ response)
+    → (response : ℕ) → 1024 ≤ response → OutcomeFits (length (after .files)) (step .outcome) × (step .count < 256) × (3 + dataCount (step .outcome) ≤ response) × (length (step .session .waiting) ≡ 255)
 compact-room script small application domain card sound trial here root short step after e response long =
     let fits : OutcomeFits (length (after .files)) (step .outcome) =
     subst (λ (st : State). OutcomeFits (length (st .card .files)) (st .step .outcome)) (sym e)
     (outcome-inside script small (takenBack card) application domain card (starts application card sound trial here root))
     in
     let few = data-few (step .outcome) (length (after .files)) fits in
-    (fits, subst (λ (st : State). st .step .count < 256) (sym e) (count-byte script application domain card short), omega arith)
+    let waits : length (step .session .waiting) ≡ 255 =
+    subst (λ (st : State). length (st .step .session .waiting) ≡ 255) (sym e)
+    (run-keeps script small (takenBack card) application domain card (starts application card sound trial here root) .good .waiting)
+    in
+    (fits, subst (λ (st : State). st .step .count < 256) (sym e) (count-byte script application domain card short), omega arith, waits)
+
+-- the answer is small
+pub compact-small : (step : Step) (files : List ℕ) → OutcomeFits (length files) (step .outcome) → step .count < 256 → length (step .session .waiting) ≡ 255
+    → (n : ℕ) → n ≡ length (compact.answer step files) → Small (record { number = 0; length = n; count = step .count })
+compact-small step files fits few all n e =
+    let l = answer-length step files fits all in
+    let d = data-few (step .outcome) (length files) fits in
+    (omega arith, omega arith, omega arith)
 
 -- and the result
 pub compact-gives : (a : Arguments) (card : Card) (step : Step) (after : Card) (response : List ℕ) (n : ℕ) → stateOf step after ≡ compact.run (a .script) (a .application) (a .domain) card
@@ -53,3 +80,62 @@ unfolding runScript accepted
 compact-gives a card step after response n e r l =
     (λ i. gives (record { number = 0; length = l i; count = step .count }) after (r i))
     ∙ ap (λ (st : State). accepted st (compact.answer (st .step) (st .card .files)) (a .response)) e
+
+-- an expanded script: its answer is small
+count-few : (n : ℕ) → length (countBytes n) ≤ 2
+unfolding countBytes bytes2
+count-few n = on-pick (λ (d : List ℕ). length d ≤ 2) (ltb n 0x80) _ _ (λ y. omega arith) (λ y. omega arith)
+
+body-few : (count : ℕ) (rapdus : List ℕ) → length (expanded.definiteBody count rapdus) ≤ 6 + length rapdus
+unfolding expanded.definiteBody
+body-few count rapdus =
+    let l = length-few (length (countBytes count)) in
+    let few = count-few count in
+    let one = length-append (lengthBytes (length (countBytes count))) (countBytes count ++ rapdus) in
+    let two = length-append (countBytes count) rapdus in
+    omega arith
+
+answer-few : (definite : Bool) (count : ℕ) (rapdus : List ℕ) → length (expanded.answerBytes definite count rapdus) ≤ 10 + length rapdus
+unfolding expanded.answerBytes expanded.definiteAnswer expanded.indefiniteAnswer pick
+answer-few true count rapdus =
+    let body = body-few count rapdus in
+    let few = length-few (length (expanded.definiteBody count rapdus)) in
+    let all = length-append (lengthBytes (length (expanded.definiteBody count rapdus))) (expanded.definiteBody count rapdus) in
+    omega arith
+answer-few false count rapdus = let all = length-append rapdus (0 ∷ 0 ∷ []) in omega arith
+
+pub expanded-small : (definite : Bool) (count : ℕ) (rapdus : List ℕ) → length rapdus ≤ 1004 → count ≤ 1024
+    → (n : ℕ) → n ≡ length (expanded.answerBytes definite count rapdus) → Small (record { number = 0; length = n; count = count })
+expanded-small definite count rapdus few most n e = let a = answer-few definite count rapdus in (omega arith, omega arith, omega arith)
+
+-- and the result
+pub value-gives : (definite : Bool) (at end : ℕ) (a : Arguments) (card : Card) (g : Gathered) (after : Card) (out response : List ℕ) (n : ℕ)
+    → expanded.progressOf g after out ≡ expanded.runFrom (length (a .script)) (a .script) (a .domain) definite at end (expanded.begun (a .application) card)
+    → response ≡ overwrite (a .response) 0 (expanded.answerBytes definite (g .step .count) (take (g .kept + g .last) out))
+    → n ≡ length (expanded.answerBytes definite (g .step .count) (take (g .kept + g .last) out))
+    → gives (record { number = 0; length = n; count = g .step .count }) after response ≡ runValue definite at end a card
+unfolding runValue accepted expanded.progressOf
+value-gives definite at end a card g after out response n e r l =
+    (λ i. gives (record { number = 0; length = l i; count = g .step .count }) after (r i))
+    ∙ (λ i. accepted (stateOf (g .step) after) (expanded.answerBytes definite (g .step .count) (take-add (g .kept) (g .last) out i)) (a .response))
+    ∙ ap (λ (p : Progress). accepted (p .state) (expanded.answerBytes definite (p .state .step .count) (p .kept ++ p .last)) (a .response)) e
+
+-- where the value of a known template lies
+pub known-lies : {t other : Template} → t ≡ other → (script : ℕ) → TemplateFits script t → TemplateFits script other
+known-lies same script = subst (TemplateFits script) same
+
+-- the value of a template of either form, and no template
+module _ (a : Arguments) (card : Card) where
+  pub definite-script : (at end : ℕ) → templateOf (a .script) ≡ Definite at end → runValue true at end a card ≡ runScript Expanded a card
+  unfolding runValue runScript expanded.run expanded.answer
+  definite-script at end e = ap (λ (t : Template). accepted (expanded.run t (a .script) (a .application) (a .domain) card .state) (expanded.answer t (expanded.run t (a .script) (a .application) (a .domain) card)) (a .response)) (sym e)
+
+  pub indefinite-script : (at end : ℕ) → templateOf (a .script) ≡ Indefinite at end → runValue false at end a card ≡ runScript Expanded a card
+  unfolding runValue runScript expanded.run expanded.answer
+  indefinite-script at end e = ap (λ (t : Template). accepted (expanded.run t (a .script) (a .application) (a .domain) card .state) (expanded.answer t (expanded.run t (a .script) (a .application) (a .domain) card)) (a .response)) (sym e)
+
+  pub no-template : templateOf (a .script) ≡ Missing → gives (numbered 0) card (a .response) ≡ runScript Expanded a card
+  unfolding runScript accepted expanded.run expanded.answer expanded.begun started
+  no-template e =
+      ap (λ (m : List ℕ). gives (numbered 0) card m) (sym (write-none (a .response) 0))
+      ∙ ap (λ (t : Template). accepted (expanded.run t (a .script) (a .application) (a .domain) card .state) (expanded.answer t (expanded.run t (a .script) (a .application) (a .domain) card)) (a .response)) (sym e)

@@ -1,7 +1,7 @@
 -- The three calls, as functions from card and arguments to answer, card and response memory.
-use Prim.Native.Nat.{ℕ}
-use mathlib.Core.Bool.{true, false}
-use mathlib.Core.List.{List, []}
+use Prim.Native.Nat.{ℕ, _<_}
+use mathlib.Core.Bool.{Bool, true, false}
+use mathlib.Core.List.{List, [], _++_}
 use lib.ListN.{length}
 use lib.Dec.{eqb}
 use Rattle.octets.specs.Bytes.{overwrite}
@@ -31,6 +31,10 @@ gives answer card response = record { answer = answer; card = card; response = r
 abbrev pub numbered : ℕ → Answer
 numbered number = record { number = number; length = 0; count = 0 }
 
+-- an answer's numbers are small: they find room in one number at the C boundary
+abbrev pub Small : Answer → Type 0
+Small a = (a .number < 256) × (a .count < 65536) × (a .length < 65536)
+
 -- an accepted run: "Response memory after the answer's last byte keeps its content."
 unfoldable pub accepted : State → List ℕ → List ℕ → Result
 accepted st answer response =
@@ -43,6 +47,14 @@ accepted st answer response =
 -- a call that is done where no number is given; "All return length 0 and count 0 and change no lent byte."
 unfoldable pub unlessRefused : ℕ → Card → List ℕ → Result → Result
 unlessRefused number c response r = elim (eqb number 0) [ true ↦ r | false ↦ gives (numbered number) c response ]
+
+-- the items of a template's value, from a place to its end, with the answer of the template's form
+unfoldable pub runValue : Bool → ℕ → ℕ → Arguments → Card → Result
+runValue definite at end a c =
+    let p : Progress =
+    expanded.runFrom (length (a .script)) (a .script) (a .domain) definite at end (expanded.begun (a .application) c)
+    in
+    accepted (p .state) (expanded.answerBytes definite (p .state .step .count) (p .kept ++ p .last)) (a .response)
 
 -- a script of a format, on a card whose journal has the script's mark
 unfoldable pub runScript : Format → Arguments → Card → Result

@@ -39,9 +39,9 @@ pub fn run(
     files: &mut [u8],
     journal: &mut [u8],
 ) -> Answer
-    ensures { λ a. ⌜ spec.gives a (lent (now (table .exit)) (now (files .exit)) (now (journal .exit))) (now (response .exit))
+    ensures { λ a. ⌜ (spec.gives a (lent (now (table .exit)) (now (files .exit)) (now (journal .exit))) (now (response .exit))
         ≡ spec.run (record { application = application; domain = domain; format = format; script = now (script .entry); response = now (response .entry) })
-        (lent (now (table .entry)) (now (files .entry)) (now (journal .entry))) ⌝ }
+        (lent (now (table .entry)) (now (files .entry)) (now (journal .entry)))) × spec.Small a ⌝ }
 {
     let number = run_number(
         application,
@@ -68,7 +68,7 @@ pub fn run(
 
 // Takes the newest script back.
 pub fn take_back(table: &mut [u8], files: &mut [u8], journal: &mut [u8]) -> Answer
-    ensures { λ a. ⌜ spec.gives a (lent (now (table .exit)) (now (files .exit)) (now (journal .exit))) [] ≡ spec.takeBack (lent (now (table .entry)) (now (files .entry)) (now (journal .entry))) ⌝ }
+    ensures { λ a. ⌜ (spec.gives a (lent (now (table .exit)) (now (files .exit)) (now (journal .exit))) [] ≡ spec.takeBack (lent (now (table .entry)) (now (files .entry)) (now (journal .entry)))) × spec.Small a ⌝ }
 {
     if !journal::sound::sound_card(table, files, journal) {
         return numbered(1);
@@ -82,7 +82,7 @@ pub fn take_back(table: &mut [u8], files: &mut [u8], journal: &mut [u8]) -> Answ
 
 // Confirms all scripts.
 pub fn confirm(table: &mut [u8], files: &mut [u8], journal: &mut [u8]) -> Answer
-    ensures { λ a. ⌜ spec.gives a (lent (now (table .exit)) (now (files .exit)) (now (journal .exit))) [] ≡ spec.confirm (lent (now (table .entry)) (now (files .entry)) (now (journal .entry))) ⌝ }
+    ensures { λ a. ⌜ (spec.gives a (lent (now (table .exit)) (now (files .exit)) (now (journal .exit))) [] ≡ spec.confirm (lent (now (table .entry)) (now (files .entry)) (now (journal .entry)))) × spec.Small a ⌝ }
 {
     if !journal::sound::sound_card(table, files, journal) {
         return numbered(1);

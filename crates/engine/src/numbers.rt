@@ -79,7 +79,7 @@ pub fn run_number(
     files: &[u8],
     journal: &[u8],
 ) -> usize
-    ensures { λ n. ⌜ n ≡ spec.firstGiven (spec.runRefusals (lent (now (table .entry)) (now (files .entry)) (now (journal .entry))) (record { application = application; domain = domain; format = format; script = now (script .entry); response = now (response .entry) })) ⌝ }
+    ensures { λ n. ⌜ (n ≡ spec.firstGiven (spec.runRefusals (lent (now (table .entry)) (now (files .entry)) (now (journal .entry))) (record { application = application; domain = domain; format = format; script = now (script .entry); response = now (response .entry) }))) × (n ≤ 6) ⌝ }
 {
     if !journal::sound::sound_card(table, files, journal) {
         return 1;

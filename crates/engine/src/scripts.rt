@@ -1,5 +1,10 @@
 // A script of each format on a card that has the script's mark: it is run, and its answer written.
 use crate::Answer;
+use crate::numbered;
+use expanded::answer::put_answer;
+use expanded::run::ROOM_TO_GATHER;
+use expanded::template::Template;
+use expanded::template::template_of;
 ghost use mathlib.Core.Path.{_≡_};
 ghost use mathlib.Core.Bool.{true};
 ghost use Prim.Native.Nat.{_≤_, _<_};
@@ -22,12 +27,53 @@ pub fn run_compact(
     journal: &mut [u8],
 ) -> Answer
     requires { ⌜ (soundCard (lent (now table) (now files) (now journal)) ≡ true) × (1 ≤ scriptsOnTrial (now journal)) × (application < entries (now table)) × (isRoot (rowOf (now table) application) ≡ true) × (length (now script) ≤ 1024) × (1024 ≤ length (now response)) ⌝ }
-    ensures { λ a. ⌜ spec.gives a (lent (now (table .exit)) (now (files .exit)) (now (journal .exit))) (now (response .exit))
+    ensures { λ a. ⌜ (spec.gives a (lent (now (table .exit)) (now (files .exit)) (now (journal .exit))) (now (response .exit))
         ≡ spec.runScript formats.Compact (record { application = application; domain = domain; format = 0; script = now (script .entry); response = now (response .entry) })
-        (lent (now (table .entry)) (now (files .entry)) (now (journal .entry))) ⌝ }
+        (lent (now (table .entry)) (now (files .entry)) (now (journal .entry)))) × spec.Small a ⌝ }
 {
     let step = compact::run::run(script, application, domain, table, files, journal);
     let length = compact::answer::put_answer(response, step, files);
+    Answer {
+        number: 0,
+        length,
+        count: step.count,
+    }
+}
+
+// The items of a template's value, from a place to its end, with the answer of the template's form.
+fn run_value(
+    definite: bool,
+    at: usize,
+    end: usize,
+    application: usize,
+    domain: usize,
+    script: &[u8],
+    response: &mut [u8],
+    table: &mut [u8],
+    files: &mut [u8],
+    journal: &mut [u8],
+) -> Answer
+    requires { ⌜ (at ≤ end) × (end ≤ length (now script)) × (soundCard (lent (now table) (now files) (now journal)) ≡ true) × (1 ≤ scriptsOnTrial (now journal)) × (application < entries (now table)) × (isRoot (rowOf (now table) application) ≡ true) × (length (now script) ≤ 1024) × (1024 ≤ length (now response)) ⌝ }
+    ensures { λ a. ⌜ (spec.gives a (lent (now (table .exit)) (now (files .exit)) (now (journal .exit))) (now (response .exit))
+        ≡ spec.runValue definite at end (record { application = application; domain = domain; format = 1; script = now (script .entry); response = now (response .entry) })
+        (lent (now (table .entry)) (now (files .entry)) (now (journal .entry)))) × spec.Small a ⌝ }
+{
+    let mut rapdus = [0; ROOM_TO_GATHER];
+    let g = expanded::run::run(
+        script,
+        definite,
+        at,
+        end,
+        application,
+        domain,
+        &mut rapdus,
+        table,
+        files,
+        journal,
+    );
+    let step = g.step;
+    let gathered = g.kept + g.last;
+    let length = put_answer(response, definite, step.count, &rapdus[..gathered]);
     Answer {
         number: 0,
         length,
@@ -46,13 +92,39 @@ pub fn run_expanded(
     journal: &mut [u8],
 ) -> Answer
     requires { ⌜ (soundCard (lent (now table) (now files) (now journal)) ≡ true) × (1 ≤ scriptsOnTrial (now journal)) × (application < entries (now table)) × (isRoot (rowOf (now table) application) ≡ true) × (length (now script) ≤ 1024) × (1024 ≤ length (now response)) ⌝ }
-    ensures { λ a. ⌜ spec.gives a (lent (now (table .exit)) (now (files .exit)) (now (journal .exit))) (now (response .exit))
+    ensures { λ a. ⌜ (spec.gives a (lent (now (table .exit)) (now (files .exit)) (now (journal .exit))) (now (response .exit))
         ≡ spec.runScript formats.Expanded (record { application = application; domain = domain; format = 1; script = now (script .entry); response = now (response .entry) })
-        (lent (now (table .entry)) (now (files .entry)) (now (journal .entry))) ⌝ }
+        (lent (now (table .entry)) (now (files .entry)) (now (journal .entry)))) × spec.Small a ⌝ }
 {
-    Answer {
-        number: 0,
-        length: 0,
-        count: 0,
+    match template_of(script) {
+        Template::Definite(at, end) => {
+            run_value(
+                true,
+                at,
+                end,
+                application,
+                domain,
+                script,
+                response,
+                table,
+                files,
+                journal,
+            )
+        }
+        Template::Indefinite(at, end) => {
+            run_value(
+                false,
+                at,
+                end,
+                application,
+                domain,
+                script,
+                response,
+                table,
+                files,
+                journal,
+            )
+        }
+        Template::Missing => numbered(0),
     }
 }

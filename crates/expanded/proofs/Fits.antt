@@ -6,7 +6,7 @@ use Prim.Native.Nat.{ℕ, _+_, _-_, _≤_, _<_}
 use native.Mathlib.Omega.{arith}
 use lib.Dec.{leb, ltb, eqb}
 use lib.ListN.{length}
-use borrow.Author.Tests.{leb-true, eqb-true}
+use borrow.Author.Tests.{leb-true, ltb-true, eqb-true}
 use Rattle.octets.specs.Choice.{pick}
 use Rattle.octets.specs.Bytes.{byte, numAt}
 use Rattle.octets.proofs.Picks.{and-left, and-right}
@@ -33,13 +33,13 @@ definite-fits (Found n place) at end fits =
     pick-has (TemplateFits end) (eqb (place + n) end) _ _ (λ whole. (fits .1, omega arith)) (λ other. tt)
 definite-fits (Bad code) at end fits = tt
 
-value-fits : (l : Length) (at end : ℕ) → LengthFits (at + 1) end l → ItemFits at end (valueAt l end)
+value-fits : (l : Length) (at end : ℕ) → at < end → LengthFits (at + 1) end l → ItemFits at end (valueAt l end)
 unfolding LengthFits ItemFits valueAt
-value-fits (Found n place) at end fits =
+value-fits (Found n place) at end more fits =
     pick-has (ItemFits at end) (leb (place + n) end && leb 4 n) _ _
     (λ both. (omega arith, leb-true (place + n) end (and-left (leb (place + n) end) (leb 4 n) both), leb-true 4 n (and-right (leb (place + n) end) (leb 4 n) both)))
-    (λ other. tt)
-value-fits (Bad code) at end fits = tt
+    (λ other. (more, omega arith))
+value-fits (Bad code) at end more fits = (more, fits)
 
 -- lengths, templates and items in a run of bytes
 module _ (bs : List ℕ) (bytes : (k : ℕ) → byte bs k < 256) where
@@ -50,8 +50,8 @@ module _ (bs : List ℕ) (bytes : (k : ℕ) → byte bs k < 256) where
       (λ there.
       let h = leb-true (at + 1 + 1) end there in
       let b = bytes (at + 1) in
-      pick-has (LengthFits at end) (leb 0x80 (byte bs (at + 1))) _ _ (λ right. (omega arith, omega arith, omega arith)) (λ wrong. tt))
-      (λ missing. tt)
+      pick-has (LengthFits at end) (leb 0x80 (byte bs (at + 1))) _ _ (λ right. (omega arith, omega arith, omega arith)) (λ wrong. omega arith))
+      (λ missing. omega arith)
 
   long-fits : (at end : ℕ) → LengthFits at end (longLength bs (at + 1) end)
   unfolding longLength LengthFits
@@ -60,8 +60,8 @@ module _ (bs : List ℕ) (bytes : (k : ℕ) → byte bs k < 256) where
       (λ there.
       let h = leb-true (at + 1 + 2) end there in
       let b = num-small bs (at + 1) (bytes (at + 1)) (bytes (at + 1 + 1)) in
-      pick-has (LengthFits at end) (leb 0x0100 (numAt bs (at + 1))) _ _ (λ right. (omega arith, omega arith, b)) (λ wrong. tt))
-      (λ missing. tt)
+      pick-has (LengthFits at end) (leb 0x0100 (numAt bs (at + 1))) _ _ (λ right. (omega arith, omega arith, b)) (λ wrong. omega arith))
+      (λ missing. omega arith)
 
   length-fits : (at end : ℕ) → LengthFits at end (lengthAt bs at end)
   unfolding lengthAt LengthFits
@@ -72,8 +72,8 @@ module _ (bs : List ℕ) (bytes : (k : ℕ) → byte bs k < 256) where
       let b = bytes at in
       pick-has (LengthFits at end) (leb (byte bs at) 0x7F) _ _ (λ small. (omega arith, omega arith, omega arith))
       (λ large. pick-has (LengthFits at end) (eqb (byte bs at) 0x81) _ _ (λ short. short-fits at end)
-      (λ other. pick-has (LengthFits at end) (eqb (byte bs at) 0x82) _ _ (λ long. long-fits at end) (λ wrong. tt))))
-      (λ missing. tt)
+      (λ other. pick-has (LengthFits at end) (eqb (byte bs at) 0x82) _ _ (λ long. long-fits at end) (λ wrong. omega arith))))
+      (λ missing. omega arith)
 
   pub length-told : (at end : ℕ) {l : Length} → l ≡ lengthAt bs at end → (l ≡ lengthAt bs at end) × LengthFits at end l
   length-told at end e = (e, rw e (length-fits at end))
@@ -99,9 +99,10 @@ module _ (bs : List ℕ) (bytes : (k : ℕ) → byte bs k < 256) where
   item-fits at end =
       pick-has (ItemFits at end) (ltb at end) _ _
       (λ more.
+      let h = ltb-true at end more in
       pick-has (ItemFits at end) (isCapduTag (byte bs at)) _ _
-      (λ tag. value-fits (lengthAt bs (at + 1) end) at end (length-fits (at + 1) end))
-      (λ other. tt))
+      (λ tag. value-fits (lengthAt bs (at + 1) end) at end h (length-fits (at + 1) end))
+      (λ other. (h, omega arith)))
       (λ done. tt)
 
   pub item-told : (at end : ℕ) {r : Item} → r ≡ itemAt bs at end → (r ≡ itemAt bs at end) × ItemFits at end r

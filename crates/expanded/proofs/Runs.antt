@@ -66,12 +66,15 @@ on-item P (Bad code) f g x h k l = k code
 on-item P End f g x h k l = l
 
 module _ (script : List ℕ) (small : (i : ℕ) → byte script i < 256) (before : Card) (domain : ℕ) (definite : Bool) where
+  pub script-capdu-holds : (from size : ℕ) (p : Progress) → Kept before p → Kept before (stepCapdu definite domain (part script from size) p)
+  script-capdu-holds from size p h = capdu-holds before definite domain (part script from size) p (part-small script small from size 4) h
+
   run-holds : (n at end : ℕ) (p : Progress) → Kept before p → Kept before (runFrom n script domain definite at end p)
   unfolding runFrom
   run-holds zero at end p h = h
   run-holds (suc n) at end p h =
       on-item (Kept before) (itemAt script at end) _ _ p
-      (λ from size. let next = capdu-holds before definite domain (part script from size) p (part-small script small from size 4) h in
+      (λ from size. let next = script-capdu-holds from size p h in
       both-ways (Kept before) (goesOn (wordOf (stepCapdu definite domain (part script from size) p .state .step .outcome))) _ _ (run-holds n (from + size) end (stepCapdu definite domain (part script from size) p) next) next)
       (λ code. bad-holds before code p h)
       h

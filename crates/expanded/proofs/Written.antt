@@ -1,4 +1,5 @@
--- The bytes of a length by its size, a written run of bytes by its other name, one written run behind another, and an R-APDU in four writes. Assumes nothing.
+-- The bytes of a length and of a count by their size, a written run of bytes by its other name, one written run behind another, and an R-APDU and
+-- the answers in their writes. Assumes nothing.
 use mathlib.Core.Path.{_≡_, refl, sym, ap, _∙_}
 use mathlib.Core.List.{List, [], _∷_, _++_, append-assoc}
 use Prim.Native.Nat.{ℕ, _+_, _≤_, _<_}
@@ -8,8 +9,8 @@ use lib.ListN.{length, length-append}
 use Rattle.octets.specs.Bytes.{bytes2, overwrite}
 use Rattle.octets.proofs.Picks.{lt-yes, lt-no}
 use Rattle.octets.proofs.Writes.{write-two}
-use Rattle.expanded.specs.Lengths.{lengthBytes}
-use Rattle.expanded.specs.Expanded.{rapdu, rapduSize}
+use Rattle.expanded.specs.Lengths.{lengthBytes, countBytes}
+use Rattle.expanded.specs.Expanded.{rapdu, rapduSize, definiteBody, definiteAnswer, indefiniteAnswer}
 use Rattle.expanded.proofs.Fits.{pick-has}
 
 -- the bytes of a length, by its size
@@ -32,6 +33,21 @@ module _ (n : ℕ) where
       pick-has (λ (d : List ℕ). 1 ≤ length d) (ltb n 0x80) _ _ (λ e. omega arith)
       (λ e. pick-has (λ (d : List ℕ). 1 ≤ length d) (ltb n 0x0100) _ _ (λ f. omega arith) (λ f. omega arith))
 
+  pub length-few : length (lengthBytes n) ≤ 3
+  unfolding lengthBytes bytes2
+  length-few =
+      pick-has (λ (d : List ℕ). length d ≤ 3) (ltb n 0x80) _ _ (λ e. omega arith)
+      (λ e. pick-has (λ (d : List ℕ). length d ≤ 3) (ltb n 0x0100) _ _ (λ f. omega arith) (λ f. omega arith))
+
+  -- the bytes of a count, by its size
+  pub count-one : n < 0x80 → n ∷ [] ≡ countBytes n
+  unfolding countBytes
+  count-one h = lt-yes n 0x80 _ h refl
+
+  pub count-two : 0x80 ≤ n → bytes2 n ≡ countBytes n
+  unfolding countBytes
+  count-two h = lt-no n 0x80 _ h refl
+
 -- a written run by its other name, and one run behind another
 module _ (m : List ℕ) (p : ℕ) where
   pub named : (k : ℕ) {w d e : List ℕ} → d ≡ e → k ≡ length d → w ≡ overwrite m p d → (w ≡ overwrite m p e) × (p + k ≡ p + length e)
@@ -45,12 +61,48 @@ pub rapdu-length : (d : List ℕ) (word : ℕ) → length (rapdu d word) ≡ rap
 unfolding rapdu rapduSize bytes2
 rapdu-length d word = simp length-append (omega arith)
 
-module _ (m : List ℕ) (p : ℕ) (d : List ℕ) (word : ℕ) (fits : p + rapduSize (length d) ≤ length m) {w1 w2 w3 w4 : List ℕ} {from : ℕ} where
-  pub rapdu-written : w1 ≡ overwrite m p (0x23 ∷ []) → w2 ≡ overwrite w1 (p + 1) (lengthBytes (length d + 2)) → from ≡ p + 1 + length (lengthBytes (length d + 2)) → w3 ≡ overwrite w2 from d → w4 ≡ overwrite w3 (from + length d) (bytes2 word) → (w4 ≡ overwrite m p (rapdu d word)) × (from + length d + 2 ≡ p + length (rapdu d word))
+module _ (m : List ℕ) (p : ℕ) (d : List ℕ) (word : ℕ) {n : ℕ} (size : n ≡ length d) (fits : p + rapduSize n ≤ length m) {w1 w2 w3 w4 : List ℕ} {from end : ℕ} where
+  pub rapdu-written : w1 ≡ overwrite m p (0x23 ∷ []) → w2 ≡ overwrite w1 (p + 1) (lengthBytes (n + 2)) → from ≡ p + 1 + length (lengthBytes (n + 2)) → w3 ≡ overwrite w2 from d → end ≡ from + n → w4 ≡ overwrite w3 end (bytes2 word) → (w4 ≡ overwrite m p (rapdu d word)) × (end + 2 ≡ p + rapduSize n)
   unfolding rapdu rapduSize bytes2
-  rapdu-written h1 h2 f h3 h4 =
-      let l : List ℕ = lengthBytes (length d + 2) in
+  rapdu-written h1 h2 f h3 e h4 =
+      let l : List ℕ = lengthBytes (n + 2) in
       let e2 = after m p (0x23 ∷ []) l h1 refl h2 (omega arith) in
       let e3 = after m p (0x23 ∷ l) d e2 (omega arith) h3 (omega arith) in
       let e4 = after m p (0x23 ∷ (l ++ d)) (bytes2 word) e3 (omega (arith, length-append l d)) h4 (omega (arith, length-append l d)) in
-      (rw append-assoc at e4, rw (rapdu-length d word) (omega arith))
+      ((rw append-assoc at e4) ∙ ap (λ (k : ℕ). overwrite m p (0x23 ∷ (lengthBytes (k + 2) ++ (d ++ bytes2 word)))) size, omega arith)
+
+-- the answer to AA: tag, length, tag and length of the count, count, and R-APDUs
+body-length : (count : ℕ) (rapdus : List ℕ) {size : ℕ} → size ≡ length (countBytes count) → size ≤ 2 → length (definiteBody count rapdus) ≡ 2 + (size + length rapdus)
+unfolding definiteBody
+body-length count rapdus {size} e few = rw (← (length-one (length (countBytes count)) (omega arith)), length-append) (omega arith)
+
+answer-length : (count : ℕ) (rapdus : List ℕ) {size : ℕ} → size ≡ length (countBytes count) → size ≤ 2 → length (definiteAnswer count rapdus) ≡ 1 + (length (lengthBytes (2 + (size + length rapdus))) + (2 + (size + length rapdus)))
+unfolding definiteAnswer
+answer-length count rapdus {size} e few =
+    let b = body-length count rapdus e few in
+    rw b (omega (arith, b, length-append (lengthBytes (2 + (size + length rapdus))) (definiteBody count rapdus)))
+
+module _ (m : List ℕ) (count : ℕ) (rapdus : List ℕ) (room : 1024 ≤ length m) (few : length rapdus ≤ 1004) {size : ℕ} (sized : size ≡ length (countBytes count)) (small : size ≤ 2) {w1 w2 w3 w4 w5 : List ℕ} {at from : ℕ} where
+  pub definite-written : w1 ≡ overwrite m 0 (0xAB ∷ []) → w2 ≡ overwrite w1 1 (lengthBytes (2 + (size + length rapdus))) → at ≡ 1 + length (lengthBytes (2 + (size + length rapdus))) → w3 ≡ overwrite w2 at (0x80 ∷ size ∷ []) → w4 ≡ overwrite w3 (at + 2) (countBytes count) → from ≡ at + 2 + length (countBytes count) → w5 ≡ overwrite w4 from rapdus → (w5 ≡ overwrite m 0 (definiteAnswer count rapdus)) × (from + length rapdus ≡ length (definiteAnswer count rapdus))
+  unfolding definiteAnswer definiteBody
+  definite-written h1 h2 a h3 h4 f h5 =
+      let n : List ℕ = countBytes count in
+      let l : List ℕ = lengthBytes (2 + (size + length rapdus)) in
+      let s : 0x80 ∷ size ∷ [] ≡ 0x80 ∷ lengthBytes (length n) = ap (λ (k : ℕ). 0x80 ∷ k ∷ []) sized ∙ ap (λ (d : List ℕ). 0x80 ∷ d) (length-one (length n) (omega arith)) in
+      let k : List ℕ = 0x80 ∷ lengthBytes (length n) in
+      let kl : length k ≡ 2 = sym (ap length s) in
+      let ll = length-few (2 + (size + length rapdus)) in
+      let l3 = length-append l k in
+      let l4 = length-append (l ++ k) n in
+      let e2 = after m 0 (0xAB ∷ []) l h1 refl h2 (omega arith) in
+      let e3 = after m 0 (0xAB ∷ l) k e2 (omega arith) (h3 ∙ ap (overwrite w2 at) s) (omega arith) in
+      let e4 = after m 0 (0xAB ∷ (l ++ k)) n e3 (omega arith) h4 (omega arith) in
+      let e5 = after m 0 (0xAB ∷ ((l ++ k) ++ n)) rapdus e4 (omega arith) h5 (omega arith) in
+      ((rw (append-assoc, append-assoc) at e5) ∙ ap (λ (k : ℕ). overwrite m 0 (0xAB ∷ (lengthBytes k ++ definiteBody count rapdus))) (sym (body-length count rapdus sized small)), rw (answer-length count rapdus sized small) (omega arith))
+
+-- the answer to AE: tag and 80, R-APDUs, and 00 00
+pub indefinite-written : (m rapdus : List ℕ) → 1024 ≤ length m → length rapdus ≤ 1004 → {w1 w2 w3 : List ℕ} → w1 ≡ overwrite m 0 (0xAF ∷ 0x80 ∷ []) → w2 ≡ overwrite w1 2 rapdus → w3 ≡ overwrite w2 (2 + length rapdus) (0 ∷ 0 ∷ []) → (w3 ≡ overwrite m 0 (indefiniteAnswer rapdus)) × (2 + length rapdus + 2 ≡ length (indefiniteAnswer rapdus))
+unfolding indefiniteAnswer
+indefinite-written m rapdus room few h1 h2 h3 =
+    let e2 = after m 0 (0xAF ∷ 0x80 ∷ []) rapdus h1 refl h2 (omega arith) in
+    (after m 0 (0xAF ∷ 0x80 ∷ rapdus) (0 ∷ 0 ∷ []) e2 (omega arith) h3 (omega arith), rw length-append (omega arith))

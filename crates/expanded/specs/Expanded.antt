@@ -2,7 +2,7 @@
 use Prim.Native.Nat.{ℕ, zero, suc, _+_}
 use mathlib.Core.Bool.{Bool, true, false, not, _||_}
 use mathlib.Core.List.{List, [], _∷_, _++_}
-use lib.ListN.{length}
+use lib.ListN.{length, take}
 use lib.Dec.{ltb, eqb}
 use Rattle.octets.specs.Choice.{pick}
 use Rattle.octets.specs.Bytes.{bytes2, part}
@@ -12,7 +12,8 @@ use Rattle.command.specs.declared.Format.the-variants.{Expanded}
 use Rattle.command.specs.declared.Reading.{Reading}
 use Rattle.command.specs.declared.Step.{Step}
 use Rattle.command.specs.Outcomes.{Plan, failed, wordOf, dataOf, dataCount, goesOn}
-use Rattle.command.specs.Commands.{State, started, planned, situation, carriedOut, stepped}
+use Rattle.command.specs.Commands.{State, stateOf, started, planned, situation, carriedOut, stepped}
+use Rattle.expanded.specs.declared.run.Gathered.{Gathered}
 use Rattle.expanded.specs.declared.template.Template.{Template}
 use Rattle.expanded.specs.declared.template.Template.the-variants.{Definite, Indefinite, Missing}
 use Rattle.expanded.specs.declared.template.Item.the-variants.{Capdu, Bad, End}
@@ -33,7 +34,7 @@ unfoldable pub badFormat : ℕ → List ℕ
 badFormat code = 0x90 ∷ 1 ∷ code ∷ []
 
 -- "R-APDUs of case 2 and 4 commands (by size)" under AA, "all R-APDUs" under AE
-unfoldable pub keeps : Bool → ℕ → Bool
+abbrev pub keeps : Bool → ℕ → Bool
 keeps definite case = not definite || (eqb case 2 || eqb case 4)
 
 -- "would pass 1,000 bytes"
@@ -53,6 +54,15 @@ pub record Progress : Type 0 where
   pub kept : List ℕ
   pub last : List ℕ
 
+-- 1,000 bytes and the R-APDU of a last command without data
+abbrev pub roomToGather : ℕ
+roomToGather = mostKept + 4
+
+-- the progress whose R-APDUs are gathered in a buffer
+unfoldable pub progressOf : Gathered → Card → List ℕ → Progress
+progressOf g card out =
+    record { state = stateOf (g .step) card; kept = take (g .kept) out; last = part out (g .kept) (g .last) }
+
 -- a command's R-APDU goes to those kept, or stands last for now
 unfoldable pub answered : Bool → State → List ℕ → List ℕ → Progress
 answered counts st kept r =
@@ -60,10 +70,16 @@ answered counts st kept r =
     (record { state = st; kept = kept ++ r; last = [] })
     (record { state = st; kept = kept; last = r })
 
--- the R-APDU of the last command
-unfoldable pub lastRapdu : State → List ℕ
-lastRapdu st =
-    rapdu (dataOf (st .step .outcome) (st .card .files) (st .step .session .waiting)) (wordOf (st .step .outcome))
+-- the same in a buffer, where the R-APDU's n bytes stand behind those kept
+unfoldable pub gatheredIn : Bool → Step → ℕ → ℕ → Gathered
+gatheredIn counts step kept n =
+    pick counts
+    (record { step = step; kept = kept + n; last = 0 })
+    (record { step = step; kept = kept; last = n })
+
+-- the R-APDU of the last command, with the file memory after it
+unfoldable pub lastRapdu : Step → List ℕ → List ℕ
+lastRapdu step files = rapdu (dataOf (step .outcome) files (step .session .waiting)) (wordOf (step .outcome))
 
 -- a C-APDU is run
 unfoldable pub stepCapdu : Bool → ℕ → List ℕ → Progress → Progress
@@ -77,7 +93,7 @@ stepCapdu definite domain capdu p =
     let st : State =
     stepped (p .state) (carriedOut (limited (length (p .kept)) counts session plan) (p .state .card))
     in
-    answered counts st (p .kept) (lastRapdu st)
+    answered counts st (p .kept) (lastRapdu (st .step) (st .card .files))
 
 -- a Bad format TLV: "It counts and stops."
 unfoldable pub stepBad : ℕ → Progress → Progress
@@ -120,14 +136,24 @@ run (Indefinite at end) script application domain card =
     runFrom (length script) script domain false at end (begun application card)
 run Missing script application domain card = begun application card
 
--- "AA answers AB, length, 80, length, count .., R-APDUs"
-unfoldable pub definiteBody : Progress → List ℕ
-definiteBody p =
-    let count : List ℕ = countBytes (p .state .step .count) in
-    0x80 ∷ (lengthBytes (length count) ++ (count ++ (p .kept ++ p .last)))
+-- "AA answers AB, length, 80, length, count .., R-APDUs": what stands behind the first length, and the whole
+unfoldable pub definiteBody : ℕ → List ℕ → List ℕ
+definiteBody count rapdus = 0x80 ∷ (lengthBytes (length (countBytes count)) ++ (countBytes count ++ rapdus))
+
+unfoldable pub definiteAnswer : ℕ → List ℕ → List ℕ
+definiteAnswer count rapdus =
+    0xAB ∷ (lengthBytes (length (definiteBody count rapdus)) ++ definiteBody count rapdus)
 
 -- "AE answers AF 80, all R-APDUs, 00 00."
+unfoldable pub indefiniteAnswer : List ℕ → List ℕ
+indefiniteAnswer rapdus = 0xAF ∷ 0x80 ∷ (rapdus ++ (0 ∷ 0 ∷ []))
+
+-- the answer from a count of commands and the R-APDUs that stand in it
+unfoldable pub answerBytes : Bool → ℕ → List ℕ → List ℕ
+answerBytes definite count rapdus = pick definite (definiteAnswer count rapdus) (indefiniteAnswer rapdus)
+
+-- "R-APDUs of case 2 and 4 commands (by size) and of the last command, once (a Bad format TLV counts as the last command)"
 unfoldable pub answer : Template → Progress → List ℕ
-answer (Definite at end) p = 0xAB ∷ (lengthBytes (length (definiteBody p)) ++ definiteBody p)
-answer (Indefinite at end) p = 0xAF ∷ 0x80 ∷ (p .kept ++ (p .last ++ (0 ∷ 0 ∷ [])))
+answer (Definite at end) p = answerBytes true (p .state .step .count) (p .kept ++ p .last)
+answer (Indefinite at end) p = answerBytes false (p .state .step .count) (p .kept ++ p .last)
 answer Missing p = []

@@ -59,8 +59,8 @@ itemAt script at end =
     (pick (isCapduTag (byte script at)) (valueAt (lengthAt script (at + 1) end) end) (Bad otherTag))
     End
 
--- a C-APDU that stands there lies in the value, behind the place, and has its four bytes
+-- a C-APDU that stands there lies in the value, behind the place, and has its four bytes; a bad format stands in the value
 unfoldable pub ItemFits : ℕ → ℕ → Item → Type 0
 ItemFits at end (Capdu from size) = (at < from) × (from + size ≤ end) × (leastCapdu ≤ size)
-ItemFits at end (Bad code) = Unit
+ItemFits at end (Bad code) = (at < end) × (code < 256)
 ItemFits at end End = Unit

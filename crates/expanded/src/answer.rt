@@ -1,14 +1,25 @@
 // Writing the answer: lengths, R-APDUs, Bad format TLVs and the count of commands. What comes out is the place after what was written.
+use command::Outcome;
+use command::ends::data_count;
+use command::ends::put_data;
+use command::ends::word_of;
 ghost use mathlib.Core.Path.{_≡_};
 ghost use Prim.Native.Nat.{_+_, _≤_, _<_};
 ghost use lib.ListN.{length};
 ghost use Rattle.octets.specs.Bytes.{overwrite};
+ghost use Rattle.command.specs.Outcomes.{wordOf, dataOf, dataCount, OutcomeFits};
 ghost use Rattle.expanded.specs.Lengths.{lengthBytes, countBytes};
 ghost use Rattle.expanded.specs.Expanded as spec;
 
 const RAPDU: u8 = 0x23;
 
 const BAD_FORMAT: u8 = 0x90;
+
+const DEFINITE: u8 = 0xAB;
+
+const INDEFINITE: u8 = 0xAF;
+
+const COUNT: u8 = 0x80;
 
 // How many bytes the shortest form of a length takes.
 pub fn length_size(n: usize) -> usize
@@ -43,21 +54,20 @@ pub fn put_length(out: &mut [u8], at: usize, n: usize) -> usize
 // How many bytes an R-APDU takes whose data are n bytes.
 pub fn rapdu_size(n: usize) -> usize
     requires { ⌜ n + 2 < 65536 ⌝ }
-    ensures { λ r. ⌜ r ≡ spec.rapduSize n ⌝ }
+    ensures { λ r. ⌜ (r ≡ spec.rapduSize n) × (r ≤ n + 6) ⌝ }
 {
     1 + (length_size(n + 2) + (n + 2))
 }
 
-// An R-APDU is written at a place.
-pub fn put_rapdu(out: &mut [u8], at: usize, data: &[u8], word: usize) -> usize
-    requires { ⌜ (at + spec.rapduSize (length (now «data»)) ≤ length (now out)) × (length (now «data») + 2 < 65536) ⌝ }
-    ensures { λ r. ⌜ (now (out .exit) ≡ overwrite (now (out .entry)) at (spec.rapdu (now («data» .entry)) word)) × (r ≡ at + length (spec.rapdu (now («data» .entry)) word)) ⌝ }
+// The R-APDU of an outcome is written at a place.
+pub fn put_rapdu(out: &mut [u8], at: usize, o: Outcome, files: &[u8], waiting: &[u8]) -> usize
+    requires { ⌜ OutcomeFits (length (now files)) o × (length (now waiting) ≡ 255) × (at + spec.rapduSize (dataCount o) ≤ length (now out)) ⌝ }
+    ensures { λ r. ⌜ (now (out .exit) ≡ overwrite (now (out .entry)) at (spec.rapdu (dataOf o (now (files .entry)) (now (waiting .entry))) (wordOf o))) × (r ≡ at + spec.rapduSize (dataCount o)) ⌝ }
 {
     octets::fill(out, at, 1, RAPDU);
-    let from = put_length(out, at + 1, data.len() + 2);
-    octets::copy(out, from, data);
-    let end = from + data.len();
-    octets::put_num(out, end, word);
+    let from = put_length(out, at + 1, data_count(o) + 2);
+    let end = put_data(out, from, o, files, waiting);
+    octets::put_num(out, end, word_of(o));
     end + 2
 }
 
@@ -68,6 +78,16 @@ pub fn put_bad(out: &mut [u8], at: usize, code: usize) -> usize
 {
     octets::copy(out, at, &[BAD_FORMAT, 1, code as u8]);
     at + 3
+}
+
+// How many bytes the count of commands takes.
+fn count_size(n: usize) -> usize
+    ensures { λ r. ⌜ (r ≡ length (countBytes n)) × (r ≤ 2) ⌝ }
+{
+    if n < 0x80 {
+        return 1;
+    }
+    2
 }
 
 // The count of commands is written at a place, as shortest signed integer.
@@ -81,4 +101,42 @@ pub fn put_count(out: &mut [u8], at: usize, n: usize) -> usize
     }
     octets::put_num(out, at, n);
     at + 2
+}
+
+// The answer to AA is written to the front of the response memory; what comes out is its length.
+fn put_definite(response: &mut [u8], count: usize, rapdus: &[u8]) -> usize
+    requires { ⌜ (1024 ≤ length (now response)) × (length (now rapdus) ≤ 1004) ⌝ }
+    ensures { λ r. ⌜ (now (response .exit) ≡ overwrite (now (response .entry)) 0 (spec.definiteAnswer count (now (rapdus .entry)))) × (r ≡ length (spec.definiteAnswer count (now (rapdus .entry)))) ⌝ }
+{
+    let size = count_size(count);
+    octets::fill(response, 0, 1, DEFINITE);
+    let at = put_length(response, 1, 2 + (size + rapdus.len()));
+    octets::copy(response, at, &[COUNT, size as u8]);
+    let from = put_count(response, at + 2, count);
+    octets::copy(response, from, rapdus);
+    from + rapdus.len()
+}
+
+// The answer to AE is written to the front of the response memory; what comes out is its length.
+fn put_indefinite(response: &mut [u8], rapdus: &[u8]) -> usize
+    requires { ⌜ (1024 ≤ length (now response)) × (length (now rapdus) ≤ 1004) ⌝ }
+    ensures { λ r. ⌜ (now (response .exit) ≡ overwrite (now (response .entry)) 0 (spec.indefiniteAnswer (now (rapdus .entry)))) × (r ≡ length (spec.indefiniteAnswer (now (rapdus .entry)))) ⌝ }
+{
+    let n = rapdus.len();
+    octets::copy(response, 0, &[INDEFINITE, 0x80]);
+    octets::copy(response, 2, rapdus);
+    octets::fill(response, 2 + n, 2, 0);
+    2 + n + 2
+}
+
+// The answer is written to the front of the response memory, from the count of commands and the gathered R-APDUs; what comes out is
+// its length.
+pub fn put_answer(response: &mut [u8], definite: bool, count: usize, gathered: &[u8]) -> usize
+    requires { ⌜ (1024 ≤ length (now response)) × (length (now gathered) ≤ 1004) × (count ≤ 1024) ⌝ }
+    ensures { λ r. ⌜ (now (response .exit) ≡ overwrite (now (response .entry)) 0 (spec.answerBytes definite count (now (gathered .entry)))) × (r ≡ length (spec.answerBytes definite count (now (gathered .entry)))) ⌝ }
+{
+    if definite {
+        return put_definite(response, count, gathered);
+    }
+    put_indefinite(response, gathered)
 }

@@ -2,4 +2,5 @@
 pub mod answer;
 pub mod capdu;
 pub mod lengths;
+pub mod run;
 pub mod template;

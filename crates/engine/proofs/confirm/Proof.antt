@@ -13,7 +13,7 @@ use Rattle.journal.specs.Changes.{withJournal, confirmed}
 use Rattle.journal.proofs.Parts.{Parts, card-parts}
 use Rattle.engine.specs.declared.Answer.{Answer}
 use Rattle.engine.specs.Calls.{gives}
-use Rattle.engine.proofs.Answers.{confirm-unsound, confirm-done}
+use Rattle.engine.proofs.Answers.{numbered-small, confirm-unsound, confirm-done}
 use Rattle.engine.proofs.confirm.Statement.{statement}
 use Rattle.engine.proofs.confirm.Tie as tie
 
@@ -36,8 +36,11 @@ returns : tie.Need-returns
 returns c =
     let a = c .before .before .before .before .before .before .before .before .before .args in
     let card : Card = lent (a .table .now) (a .files .now) (a .journal .now) in
-    ap (λ (x : Answer). gives x card []) (c .numbered .ensures)
-    ∙ sym (confirm-unsound card (sym (c .before .before .sound-card .ensures) ∙ not-true (c .before .before .sound-card .result) (c .before .if1 .taken)))
+    (
+      ap (λ (x : Answer). gives x card []) (c .numbered .ensures)
+          ∙ sym (confirm-unsound card (sym (c .before .before .sound-card .ensures) ∙ not-true (c .before .before .sound-card .result) (c .before .if1 .taken))),
+      numbered-small _ _ (c .numbered .ensures) (omega arith),
+    )
 
 confirm-requires : tie.Need-confirm-requires
 unfolding room
@@ -70,8 +73,11 @@ returns-2 c =
     let sound : soundCard card ≡ true =
     sym (c .before .before .before .before .before .before .sound-card .ensures) ∙ not-false (c .before .before .before .before .before .before .sound-card .result) (c .before .before .before .before .before .if1 .left)
     in
-    ap₂ (λ (x : Answer) (j : List ℕ). gives x (lent (a .table .now) (a .files .now) j) []) (c .numbered2 .ensures) (c .before .before .before .confirm .ensures)
-    ∙ sym (confirm-done card sound)
+    (
+      ap₂ (λ (x : Answer) (j : List ℕ). gives x (lent (a .table .now) (a .files .now) j) []) (c .numbered2 .ensures) (c .before .before .before .confirm .ensures)
+          ∙ sym (confirm-done card sound),
+      numbered-small _ _ (c .numbered2 .ensures) (omega arith),
+    )
 
 pub confirm-spec : {M : Type 1} → statement M
 confirm-spec =

@@ -6,6 +6,7 @@ use Rattle.card.specs.Row.{Card, lent}
 use Rattle.engine.specs.declared.Answer.{Answer}
 use Rattle.engine.specs.Numbers.{Arguments}
 use Rattle.engine.specs.Calls.{gives}
+use Rattle.engine.proofs.Answers.{numbered-small}
 use Rattle.engine.proofs.Accepted.{refused-run, journal-whole, mark-inside, scripts-byte, script-starts, accepted-run, compact-script, expanded-script}
 use Rattle.engine.proofs.run.Statement.{statement}
 use Rattle.engine.proofs.run.Tie as tie
@@ -44,28 +45,32 @@ same-length-4 c = search needs
 returns : tie.Need-returns
 returns c =
     let s = c .before .before .before .before .before .before .before .before .before .before .before .before in
-    ap (λ (x : Answer). gives x (cardOf s) (s .args .response .now)) (c .numbered .ensures)
-    ∙ refused-run (cardOf s) (argumentsOf s) _ (c .before .before .run-number .ensures) (c .before .if1 .taken)
+    let n = c .before .before .run-number .ensures in
+    (
+      ap (λ (x : Answer). gives x (cardOf s) (s .args .response .now)) (c .numbered .ensures)
+          ∙ refused-run (cardOf s) (argumentsOf s) _ (n .0) (c .before .if1 .taken),
+      numbered-small _ _ (c .numbered .ensures) (omega (arith, n .1)),
+    )
 
 used-bytes-requires : tie.Need-used-bytes-requires
 used-bytes-requires c κs =
     let s = c .before .before .before .before .before .before .before .before .before .before .before .before in
-    omega (arith, journal-whole (cardOf s) (argumentsOf s) _ (c .before .before .run-number .ensures) (c .before .if1 .left))
+    omega (arith, journal-whole (cardOf s) (argumentsOf s) _ (c .before .before .run-number .ensures .0) (c .before .if1 .left))
 
 slice-read-scripts : tie.Need-slice-read-scripts
 slice-read-scripts c =
     let s = c .before .before .before .before .before .before .before .before .before .before .before .before .before .before in
-    omega (arith, journal-whole (cardOf s) (argumentsOf s) _ (c .before .before .before .before .run-number .ensures) (c .before .before .before .if1 .left))
+    omega (arith, journal-whole (cardOf s) (argumentsOf s) _ (c .before .before .before .before .run-number .ensures .0) (c .before .before .before .if1 .left))
 
 add-push-mark : tie.Need-add-push-mark
 add-push-mark c =
     let s = c .before .before .before .before .before .before .before .before .before .before .before .before .before .before .before in
-    omega (arith, scripts-byte (cardOf s) (argumentsOf s) _ (c .before .before .before .before .before .run-number .ensures) (c .before .before .before .before .if1 .left))
+    omega (arith, scripts-byte (cardOf s) (argumentsOf s) _ (c .before .before .before .before .before .run-number .ensures .0) (c .before .before .before .before .if1 .left))
 
 push-mark-requires : tie.Need-push-mark-requires
 push-mark-requires c κs =
     let s = c .before .before .before .before .before .before .before .before .before .before .before .before .before .before .before in
-    omega (arith, mark-inside (cardOf s) (argumentsOf s) _ (c .before .before .before .before .before .run-number .ensures) (c .before .before .before .before .if1 .left), c .before .before .used-bytes .ensures .0)
+    omega (arith, mark-inside (cardOf s) (argumentsOf s) _ (c .before .before .before .before .before .run-number .ensures .0) (c .before .before .before .before .if1 .left), c .before .before .used-bytes .ensures .0)
 
 wide-requires : tie.Need-wide-requires
 wide-requires c κs = search needs
@@ -73,7 +78,7 @@ wide-requires c κs = search needs
 run-compact-requires : tie.Need-run-compact-requires
 run-compact-requires c κs =
     let s = c .before .before .before .before .before .before .before .before .before .before .before .before .before .before .before .before .before .before .before .before .before .before .before .before in
-    script-starts (cardOf s) (argumentsOf s) _ (c .before .before .before .before .before .before .before .before .before .before .before .before .before .before .run-number .ensures) (c .before .before .before .before .before .before .before .before .before .before .before .before .before .if1 .left) _ _ _ (c .before .before .before .before .before .before .before .before .before .before .before .used-bytes .ensures .0) refl (c .before .before .before .before .before .before .before .before .push-mark .ensures)
+    script-starts (cardOf s) (argumentsOf s) _ (c .before .before .before .before .before .before .before .before .before .before .before .before .before .before .run-number .ensures .0) (c .before .before .before .before .before .before .before .before .before .before .before .before .before .if1 .left) _ _ _ (c .before .before .before .before .before .before .before .before .before .before .before .used-bytes .ensures .0) refl (c .before .before .before .before .before .before .before .before .push-mark .ensures)
 
 same-length-5 : tie.Need-same-length-5
 same-length-5 c = search needs
@@ -90,14 +95,17 @@ same-length-8 c = search needs
 returns-2 : tie.Need-returns-2
 returns-2 c =
     let s = c .before .before .before .before .before .before .before .before .before .before .before .before .before .before .before .before .before .before .before .before .before .before .before .before .before .before .before .before .before .before .before .before .before in
-    c .before .before .before .before .before .before .before .before .run-compact .ensures
-    ∙ compact-script (argumentsOf s) (c .before .before .before .before .before .before .before .before .before .before .before .before .before .before .wide .ensures .0) (c .before .before .before .before .before .before .before .before .before .before .before .before .before .if2 .taken) _
-    ∙ accepted-run (cardOf s) (argumentsOf s) _ (c .before .before .before .before .before .before .before .before .before .before .before .before .before .before .before .before .before .before .before .before .before .before .before .run-number .ensures) (c .before .before .before .before .before .before .before .before .before .before .before .before .before .before .before .before .before .before .before .before .before .before .if1 .left) _ _ _ (c .before .before .before .before .before .before .before .before .before .before .before .before .before .before .before .before .before .before .before .before .used-bytes .ensures .0) refl (c .before .before .before .before .before .before .before .before .before .before .before .before .before .before .before .before .before .push-mark .ensures)
+    (
+      c .before .before .before .before .before .before .before .before .run-compact .ensures .0
+          ∙ compact-script (argumentsOf s) (c .before .before .before .before .before .before .before .before .before .before .before .before .before .before .wide .ensures .0) (c .before .before .before .before .before .before .before .before .before .before .before .before .before .if2 .taken) _
+          ∙ accepted-run (cardOf s) (argumentsOf s) _ (c .before .before .before .before .before .before .before .before .before .before .before .before .before .before .before .before .before .before .before .before .before .before .before .run-number .ensures .0) (c .before .before .before .before .before .before .before .before .before .before .before .before .before .before .before .before .before .before .before .before .before .before .if1 .left) _ _ _ (c .before .before .before .before .before .before .before .before .before .before .before .before .before .before .before .before .before .before .before .before .used-bytes .ensures .0) refl (c .before .before .before .before .before .before .before .before .before .before .before .before .before .before .before .before .before .push-mark .ensures),
+      c .before .before .before .before .before .before .before .before .run-compact .ensures .1,
+    )
 
 run-expanded-requires : tie.Need-run-expanded-requires
 run-expanded-requires c κs =
     let s = c .before .before .before .before .before .before .before .before .before .before .before .before .before .before .before .before .before .before .before .before .before .before .before .before in
-    script-starts (cardOf s) (argumentsOf s) _ (c .before .before .before .before .before .before .before .before .before .before .before .before .before .before .run-number .ensures) (c .before .before .before .before .before .before .before .before .before .before .before .before .before .if1 .left) _ _ _ (c .before .before .before .before .before .before .before .before .before .before .before .used-bytes .ensures .0) refl (c .before .before .before .before .before .before .before .before .push-mark .ensures)
+    script-starts (cardOf s) (argumentsOf s) _ (c .before .before .before .before .before .before .before .before .before .before .before .before .before .before .run-number .ensures .0) (c .before .before .before .before .before .before .before .before .before .before .before .before .before .if1 .left) _ _ _ (c .before .before .before .before .before .before .before .before .before .before .before .used-bytes .ensures .0) refl (c .before .before .before .before .before .before .before .before .push-mark .ensures)
 
 same-length-9 : tie.Need-same-length-9
 same-length-9 c = search needs
@@ -114,9 +122,12 @@ same-length-12 c = search needs
 returns-3 : tie.Need-returns-3
 returns-3 c =
     let s = c .before .before .before .before .before .before .before .before .before .before .before .before .before .before .before .before .before .before .before .before .before .before .before .before .before .before .before .before .before .before .before .before .before in
-    c .before .before .before .before .before .before .before .before .run-expanded .ensures
-    ∙ expanded-script (argumentsOf s) (c .before .before .before .before .before .before .before .before .before .before .before .before .before .before .wide .ensures .0) (c .before .before .before .before .before .before .before .before .before .before .before .before .before .if2 .left) _
-    ∙ accepted-run (cardOf s) (argumentsOf s) _ (c .before .before .before .before .before .before .before .before .before .before .before .before .before .before .before .before .before .before .before .before .before .before .before .run-number .ensures) (c .before .before .before .before .before .before .before .before .before .before .before .before .before .before .before .before .before .before .before .before .before .before .if1 .left) _ _ _ (c .before .before .before .before .before .before .before .before .before .before .before .before .before .before .before .before .before .before .before .before .used-bytes .ensures .0) refl (c .before .before .before .before .before .before .before .before .before .before .before .before .before .before .before .before .before .push-mark .ensures)
+    (
+      c .before .before .before .before .before .before .before .before .run-expanded .ensures .0
+          ∙ expanded-script (argumentsOf s) (c .before .before .before .before .before .before .before .before .before .before .before .before .before .before .wide .ensures .0) (c .before .before .before .before .before .before .before .before .before .before .before .before .before .if2 .left) _
+          ∙ accepted-run (cardOf s) (argumentsOf s) _ (c .before .before .before .before .before .before .before .before .before .before .before .before .before .before .before .before .before .before .before .before .before .before .before .run-number .ensures .0) (c .before .before .before .before .before .before .before .before .before .before .before .before .before .before .before .before .before .before .before .before .before .before .if1 .left) _ _ _ (c .before .before .before .before .before .before .before .before .before .before .before .before .before .before .before .before .before .before .before .before .used-bytes .ensures .0) refl (c .before .before .before .before .before .before .before .before .before .before .before .before .before .before .before .before .before .push-mark .ensures),
+      c .before .before .before .before .before .before .before .before .run-expanded .ensures .1,
+    )
 
 pub run-spec : {M : Type 1} → statement M
 run-spec =

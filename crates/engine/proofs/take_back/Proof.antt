@@ -12,7 +12,7 @@ use Rattle.journal.specs.Sound.{soundCard}
 use Rattle.journal.proofs.Parts.{card-parts}
 use Rattle.engine.specs.declared.Answer.{Answer}
 use Rattle.engine.specs.Calls.{gives}
-use Rattle.engine.proofs.Answers.{back-unsound, back-none, back-done}
+use Rattle.engine.proofs.Answers.{numbered-small, back-unsound, back-none, back-done}
 use Rattle.engine.proofs.take_back.Statement.{statement}
 use Rattle.engine.proofs.take_back.Tie as tie
 
@@ -35,8 +35,11 @@ returns : tie.Need-returns
 returns c =
     let a = c .before .before .before .before .before .before .before .before .before .args in
     let card : Card = lent (a .table .now) (a .files .now) (a .journal .now) in
-    ap (λ (x : Answer). gives x card []) (c .numbered .ensures)
-    ∙ sym (back-unsound card (sym (c .before .before .sound-card .ensures) ∙ not-true (c .before .before .sound-card .result) (c .before .if1 .taken)))
+    (
+      ap (λ (x : Answer). gives x card []) (c .numbered .ensures)
+          ∙ sym (back-unsound card (sym (c .before .before .sound-card .ensures) ∙ not-true (c .before .before .sound-card .result) (c .before .if1 .taken))),
+      numbered-small _ _ (c .numbered .ensures) (omega arith),
+    )
 
 scripts-on-trial-requires : tie.Need-scripts-on-trial-requires
 scripts-on-trial-requires c κs =
@@ -67,8 +70,11 @@ returns-2 c =
     let sound : soundCard card ≡ true =
     sym (c .before .before .before .before .before .sound-card .ensures) ∙ not-false (c .before .before .before .before .before .sound-card .result) (c .before .before .before .before .if1 .left)
     in
-    ap (λ (x : Answer). gives x card []) (c .numbered2 .ensures)
-    ∙ sym (back-none card sound (sym (c .before .before .scripts-on-trial .ensures .0) ∙ c .before .if2 .taken))
+    (
+      ap (λ (x : Answer). gives x card []) (c .numbered2 .ensures)
+          ∙ sym (back-none card sound (sym (c .before .before .scripts-on-trial .ensures .0) ∙ c .before .if2 .taken)),
+      numbered-small _ _ (c .numbered2 .ensures) (omega arith),
+    )
 
 take-back-requires : tie.Need-take-back-requires
 take-back-requires c κs =
@@ -104,8 +110,11 @@ returns-3 c =
     let some : scriptsOnTrial (card .journal) ≡ 0 → ⊥ =
     λ none. c .before .before .before .before .before .before .before .before .before .before .before .if2 .left (c .before .before .before .before .before .before .before .before .before .before .before .before .scripts-on-trial .ensures .0 ∙ none)
     in
-    ap₂ (λ (x : Answer) (k : Card). gives x k []) (c .numbered3 .ensures) (c .before .before .before .before .before .before .before .take-back .ensures)
-    ∙ sym (back-done card sound some)
+    (
+      ap₂ (λ (x : Answer) (k : Card). gives x k []) (c .numbered3 .ensures) (c .before .before .before .before .before .before .before .take-back .ensures)
+          ∙ sym (back-done card sound some),
+      numbered-small _ _ (c .numbered3 .ensures) (omega arith),
+    )
 
 pub take-back-spec : {M : Type 1} → statement M
 take-back-spec =

@@ -36,7 +36,7 @@ returns c =
     let s = c .before .before .before .before .before .before .before in
     let a = argumentsOf s in
     let card = cardOf s in
-    meets-1 card a (sym (c .before .sound-card .ensures) ∙ not-true (c .before .sound-card .result) (c .if1 .taken))
+    (meets-1 card a (sym (c .before .sound-card .ensures) ∙ not-true (c .before .sound-card .result) (c .if1 .taken)), omega arith)
 
 arguments-fit-requires : tie.Need-arguments-fit-requires
 arguments-fit-requires c κs =
@@ -51,7 +51,7 @@ returns-2 c =
     let card = cardOf s in
     let sound : soundCard card ≡ true = sym (c .before .before .before .sound-card .ensures) ∙ not-false (c .before .before .before .sound-card .result) (c .before .before .if1 .left) in
     let arguments = arguments-root (card .table) (card .files) (card-table card sound) a in
-    meets-2 card a sound (arguments ∙ sym (c .before .arguments-fit .ensures) ∙ not-true (c .before .arguments-fit .result) (c .if2 .taken))
+    (meets-2 card a sound (arguments ∙ sym (c .before .arguments-fit .ensures) ∙ not-true (c .before .arguments-fit .result) (c .if2 .taken)), omega arith)
 
 script-fits-requires : tie.Need-script-fits-requires
 script-fits-requires c κs = search needs
@@ -64,7 +64,7 @@ returns-3 c =
     let sound : soundCard card ≡ true = sym (c .before .before .before .before .before .sound-card .ensures) ∙ not-false (c .before .before .before .before .before .sound-card .result) (c .before .before .before .before .if1 .left) in
     let arguments = arguments-root (card .table) (card .files) (card-table card sound) a in
     let known : argumentsFit (card .table) a ≡ true = arguments ∙ sym (c .before .before .before .arguments-fit .ensures) ∙ not-false (c .before .before .before .arguments-fit .result) (c .before .before .if2 .left) in
-    meets-3 card a sound known (sym (c .before .script-fits .ensures) ∙ not-true (c .before .script-fits .result) (c .if3 .taken))
+    (meets-3 card a sound known (sym (c .before .script-fits .ensures) ∙ not-true (c .before .script-fits .result) (c .if3 .taken)), omega arith)
 
 returns-4 : tie.Need-returns-4
 returns-4 c =
@@ -75,7 +75,7 @@ returns-4 c =
     let arguments = arguments-root (card .table) (card .files) (card-table card sound) a in
     let known : argumentsFit (card .table) a ≡ true = arguments ∙ sym (c .before .before .before .before .arguments-fit .ensures) ∙ not-false (c .before .before .before .before .arguments-fit .result) (c .before .before .before .if2 .left) in
     let script : scriptFits (a .script) ≡ true = sym (c .before .before .script-fits .ensures) ∙ not-false (c .before .before .script-fits .result) (c .before .if3 .left) in
-    meets-4 card a sound known script (omega (arith, c .if4 .taken))
+    (meets-4 card a sound known script (omega (arith, c .if4 .taken)), omega arith)
 
 mark-fits-requires : tie.Need-mark-fits-requires
 mark-fits-requires c κs =
@@ -94,7 +94,7 @@ returns-5 c =
     let known : argumentsFit (card .table) a ≡ true = arguments ∙ sym (c .before .before .before .before .before .before .arguments-fit .ensures) ∙ not-false (c .before .before .before .before .before .before .arguments-fit .result) (c .before .before .before .before .before .if2 .left) in
     let script : scriptFits (a .script) ≡ true = sym (c .before .before .before .before .script-fits .ensures) ∙ not-false (c .before .before .before .before .script-fits .result) (c .before .before .before .if3 .left) in
     let response : 1024 ≤ length (a .response) = omega (arith, c .before .before .if4 .left) in
-    meets-5 card a sound known script response (sym (c .before .mark-fits .ensures) ∙ not-true (c .before .mark-fits .result) (c .if5 .taken))
+    (meets-5 card a sound known script response (sym (c .before .mark-fits .ensures) ∙ not-true (c .before .mark-fits .result) (c .if5 .taken)), omega arith)
 
 template-fits-requires : tie.Need-template-fits-requires
 template-fits-requires c κs = search needs
@@ -110,7 +110,7 @@ returns-6 c =
     let script : scriptFits (a .script) ≡ true = sym (c .before .before .before .before .before .before .script-fits .ensures) ∙ not-false (c .before .before .before .before .before .before .script-fits .result) (c .before .before .before .before .before .if3 .left) in
     let response : 1024 ≤ length (a .response) = omega (arith, c .before .before .before .before .if4 .left) in
     let mark : markFits (card .journal) ≡ true = sym (c .before .before .before .mark-fits .ensures) ∙ not-false (c .before .before .before .mark-fits .result) (c .before .before .if5 .left) in
-    meets-6 card a sound known script response mark (sym (c .before .template-fits .ensures) ∙ not-true (c .before .template-fits .result) (c .if6 .taken))
+    (meets-6 card a sound known script response mark (sym (c .before .template-fits .ensures) ∙ not-true (c .before .template-fits .result) (c .if6 .taken)), omega arith)
 
 returns-7 : tie.Need-returns-7
 returns-7 c =
@@ -123,7 +123,7 @@ returns-7 c =
     let script : scriptFits (a .script) ≡ true = sym (c .before .before .before .before .before .before .script-fits .ensures) ∙ not-false (c .before .before .before .before .before .before .script-fits .result) (c .before .before .before .before .before .if3 .left) in
     let response : 1024 ≤ length (a .response) = omega (arith, c .before .before .before .before .if4 .left) in
     let mark : markFits (card .journal) ≡ true = sym (c .before .before .before .mark-fits .ensures) ∙ not-false (c .before .before .before .mark-fits .result) (c .before .before .if5 .left) in
-    meets-none card a sound known script response mark (sym (c .before .template-fits .ensures) ∙ not-false (c .before .template-fits .result) (c .if6 .left))
+    (meets-none card a sound known script response mark (sym (c .before .template-fits .ensures) ∙ not-false (c .before .template-fits .result) (c .if6 .left)), omega arith)
 
 pub run-number-spec : {M : Type 1} → statement M
 run-number-spec =

@@ -1,8 +1,16 @@
 -- `engine::scripts::run_compact` meets its contract. Assumes nothing.
+use mathlib.Core.Path.{_≡_}
+use Prim.Native.Nat.{ℕ, _+_, _≤_, _<_}
+use lib.ListN.{length}
 use borrow.Author.Needs.{needs}
+use Rattle.octets.specs.Bytes.{byte}
 use Rattle.card.specs.Row.{Card, lent}
+use Rattle.command.specs.declared.Step.{Step}
+use Rattle.command.specs.Outcomes.{dataCount, OutcomeFits}
+use Rattle.command.specs.Commands.{stateOf}
+use Rattle.compact.specs.Compact as compact
 use Rattle.engine.specs.Numbers.{Arguments}
-use Rattle.engine.proofs.Ended.{compact-room, compact-gives}
+use Rattle.engine.proofs.Ended.{compact-room, compact-small, compact-gives}
 use Rattle.engine.proofs.scripts.run_compact.Statement.{statement}
 use Rattle.engine.proofs.scripts.run_compact.Tie as tie
 
@@ -22,11 +30,20 @@ argumentsOf s =
 run-requires : tie.Need-run-requires
 run-requires c κs = search needs
 
+-- what the run left has room
+module _ (s : tie.Start) (small : (i : ℕ) → byte (s .args .script .now) i < 256) (step : Step) (after : Card)
+  (e : stateOf step after ≡ compact.run (s .args .script .now) (s .args .application) (s .args .domain) (cardOf s)) where
+  room : OutcomeFits (length (after .files)) (step .outcome) × (step .count < 256) × (3 + dataCount (step .outcome) ≤ length (s .args .response .now)) × (length (step .session .waiting) ≡ 255)
+  room =
+      compact-room (s .args .script .now) small (s .args .application) (s .args .domain) (cardOf s) (s .pre .0) (s .pre .1) (s .pre .2) (s .pre .3) (s .pre .4) step after
+      e (length (s .args .response .now)) (s .pre .5)
+
 put-answer-requires : tie.Need-put-answer-requires
 put-answer-requires c κs =
     let s = c .before .before .before .before .before .before .before .before .before .before .before .before .before .before .before .before .before in
-    compact-room (s .args .script .now) (λ i. c .before .before .before .before .before .before .before .before .before .before .before .before .before .before .before .before .shared-slice-known .given i .fits) (s .args .application) (s .args .domain) (cardOf s) (s .pre .0) (s .pre .1) (s .pre .2) (s .pre .3) (s .pre .4) _ _
-    (c .before .before .before .before .before .before .before .before .run .ensures) _ (s .pre .5)
+    let fits = room s (λ i. c .before .before .before .before .before .before .before .before .before .before .before .before .before .before .before .before .shared-slice-known .given i .fits) _ _
+    (c .before .before .before .before .before .before .before .before .run .ensures) in
+    (fits .0, fits .1, fits .2)
 
 same-length : tie.Need-same-length
 same-length c = search needs
@@ -43,7 +60,13 @@ same-length-4 c = search needs
 returns : tie.Need-returns
 returns c =
     let s = c .before .before .before .before .before .before .before .before .before .before .before .before .before .before .before .before .before .before .before .before in
-    compact-gives (argumentsOf s) (cardOf s) _ _ _ _ (c .before .before .before .before .before .before .before .before .before .before .before .run .ensures) (c .before .before .put-answer .ensures .0) (c .before .before .put-answer .ensures .1)
+    let step = c .before .before .before .before .before .before .before .before .before .before .before .run .result in
+    let e = c .before .before .before .before .before .before .before .before .before .before .before .run .ensures in
+    let fits = room s (λ i. c .before .before .before .before .before .before .before .before .before .before .before .before .before .before .before .before .before .before .before .shared-slice-known .given i .fits) step _ e in
+    (
+      compact-gives (argumentsOf s) (cardOf s) step _ _ _ e (c .before .before .put-answer .ensures .0) (c .before .before .put-answer .ensures .1),
+      compact-small step _ (fits .0) (fits .1) (fits .3) _ (c .before .before .put-answer .ensures .1),
+    )
 
 pub run-compact-spec : {M : Type 1} → statement M
 run-compact-spec =

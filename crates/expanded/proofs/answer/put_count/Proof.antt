@@ -1,9 +1,7 @@
 -- `expanded::answer::put_count` meets its contract: each way writes the bytes of the count. Assumes nothing.
 use mathlib.Core.Path.{refl}
 use Rattle.octets.specs.Bytes.{bytes2}
-use Rattle.octets.proofs.Picks.{lt-yes, lt-no}
-use Rattle.expanded.specs.Lengths.{countBytes}
-use Rattle.expanded.proofs.Written.{named}
+use Rattle.expanded.proofs.Written.{count-one, count-two, named}
 use borrow.Author.Needs.{needs}
 use Rattle.expanded.proofs.answer.put_count.Statement.{statement}
 use Rattle.expanded.proofs.answer.put_count.Tie as tie
@@ -21,10 +19,9 @@ same-length : tie.Need-same-length
 same-length c = search needs
 
 returns : tie.Need-returns
-unfolding countBytes
 returns c =
     let s = c .before .before .before .before .before .before in
-    named (s .args .out .now) (s .args .at) 1 (lt-yes _ _ _ (c .before .before .before .before .if1 .taken) refl) refl (c .before .before .fill .ensures)
+    named (s .args .out .now) (s .args .at) 1 (count-one _ (c .before .before .before .before .if1 .taken)) refl (c .before .before .fill .ensures)
 
 put-num-requires : tie.Need-put-num-requires
 put-num-requires c κs = search needs
@@ -36,10 +33,10 @@ same-length-2 : tie.Need-same-length-2
 same-length-2 c = search needs
 
 returns-2 : tie.Need-returns-2
-unfolding countBytes bytes2
+unfolding bytes2
 returns-2 c =
     let s = c .before .before .before .before .before .before in
-    named (s .args .out .now) (s .args .at) 2 (lt-no _ _ _ (c .before .before .before .before .if1 .left) refl) refl (c .before .before .put-num .ensures)
+    named (s .args .out .now) (s .args .at) 2 (count-two _ (c .before .before .before .before .if1 .left)) refl (c .before .before .put-num .ensures)
 
 pub put-count-spec : {M : Type 1} → statement M
 put-count-spec =

@@ -1,10 +1,13 @@
 -- `expanded::answer::put_rapdu` meets its contract: tag, length, data and status are written one behind another. Assumes nothing.
+use mathlib.Core.Path.{_≡_, sym, ap, _∙_}
+use Prim.Native.Nat.{ℕ, _+_}
 use native.Mathlib.Omega.{arith}
-use Prim.Native.Nat.{_+_}
-use lib.ListN.{length}
-use Rattle.expanded.specs.Expanded.{rapduSize}
-use Rattle.expanded.proofs.Written.{length-some, rapdu-written}
 use borrow.Author.Needs.{needs}
+use Rattle.octets.specs.Bytes.{overwrite}
+use Rattle.command.specs.Outcomes.{dataOf, dataCount}
+use Rattle.command.proofs.Outgoing.{data-length, data-few}
+use Rattle.expanded.specs.Expanded.{rapdu, rapduSize}
+use Rattle.expanded.proofs.Written.{length-some, rapdu-written}
 use Rattle.expanded.proofs.answer.put_rapdu.Statement.{statement}
 use Rattle.expanded.proofs.answer.put_rapdu.Tie as tie
 
@@ -15,40 +18,58 @@ fill-requires c κs = omega arith
 add-put-length : tie.Need-add-put-length
 add-put-length c = search needs
 
+data-count-requires : tie.Need-data-count-requires
+data-count-requires c κs = search needs
+
 add-put-length-2 : tie.Need-add-put-length-2
-add-put-length-2 c = search needs
+add-put-length-2 c = let few = data-few (c .before .before .before .before .before .before .before .before .before .args .o) _ (c .before .before .before .before .before .before .before .before .before .pre .0) in omega arith
 
 put-length-requires : tie.Need-put-length-requires
 unfolding rapduSize
-put-length-requires c κs = omega (arith, length-some (length (c .before .before .before .before .before .before .before .args .«data» .now) + 2))
+put-length-requires c κs =
+    let few = data-few (c .before .before .before .before .before .before .before .before .before .args .o) _ (c .before .before .before .before .before .before .before .before .before .pre .0) in
+    let some = length-some (dataCount (c .before .before .before .before .before .before .before .before .before .args .o) + 2) in
+    (omega arith, omega arith)
 
-copy-requires : tie.Need-copy-requires
+put-data-requires : tie.Need-put-data-requires
 unfolding rapduSize
-copy-requires c κs = omega arith
+put-data-requires c κs =
+    let s = c .before .before .before .before .before .before .before .before .before .before .before .before .before in
+    let n : c .before .before .before .before .data-count .result ≡ dataCount (s .args .o) = c .before .before .before .before .data-count .ensures in
+    let from = rw n at (c .before .before .before .put-length .ensures .1) in
+    (s .pre .0, s .pre .1, omega arith)
 
-add-end : tie.Need-add-end
-unfolding rapduSize
-add-end c = omega arith
+word-of-requires : tie.Need-word-of-requires
+word-of-requires c κs = search needs
 
 put-num-requires : tie.Need-put-num-requires
 unfolding rapduSize
-put-num-requires c κs = omega arith
+put-num-requires c κs =
+    let n : c .before .before .before .before .before .before .before .before .before .data-count .result ≡ dataCount (c .before .before .before .before .before .before .before .before .before .before .before .before .before .before .before .before .before .before .args .o) = c .before .before .before .before .before .before .before .before .before .data-count .ensures in
+    let from = rw n at (c .before .before .before .before .before .before .before .before .put-length .ensures .1) in
+    omega arith
 
 add-result : tie.Need-add-result
 unfolding rapduSize
-add-result c = omega arith
+add-result c =
+    let n : c .before .before .before .before .before .before .before .before .before .before .before .before .data-count .result ≡ dataCount (c .before .before .before .before .before .before .before .before .before .before .before .before .before .before .before .before .before .before .before .before .before .args .o) = c .before .before .before .before .before .before .before .before .before .before .before .before .data-count .ensures in
+    let from = rw n at (c .before .before .before .before .before .before .before .before .before .before .before .put-length .ensures .1) in
+    omega arith
 
 same-length : tie.Need-same-length
 same-length c = search needs
 
 returns : tie.Need-returns
 returns c =
-    let n = c .before .before in
-    let d = n .before .before .before .before in
-    let l = d .before .before .before .before in
-    let t = l .before .before .before .before in
-    let s = t .before .before .before .before in
-    rapdu-written (s .args .out .now) (s .args .at) (s .args .«data» .now) (s .args .word) (s .pre .0) (t .fill .ensures) (l .put-length .ensures .0) (l .put-length .ensures .1) (d .copy .ensures) (n .put-num .ensures)
+    let s = c .before .before .before .before .before .before .before .before .before .before .before .before .before .before .before .before .before .before .before .before .before in
+    let l = c .before .before .before .before .before .before .before .before .before .before .before in
+    let o = s .args .o in
+    let m = s .args .out .now in
+    let d = dataOf o (s .args .files .now) (s .args .waiting .now) in
+    let n : c .before .before .before .before .before .before .before .before .before .before .before .before .data-count .result ≡ dataCount o = c .before .before .before .before .before .before .before .before .before .before .before .before .data-count .ensures in
+    let h = rapdu-written m (s .args .at) d (c .before .before .before .word-of .result) (sym (data-length o (s .args .files .now) (s .args .waiting .now) (s .pre .0) (s .pre .1))) (s .pre .2)
+    (c .before .before .before .before .before .before .before .before .before .before .before .before .before .before .before .before .fill .ensures) (rw n at (l .put-length .ensures .0)) (rw n at (l .put-length .ensures .1)) (c .before .before .before .before .before .before .before .put-data .ensures .0) (c .before .before .before .before .before .before .before .put-data .ensures .1) (c .before .before .put-num .ensures) in
+    (h .0 ∙ ap (λ (w : ℕ). overwrite m (s .args .at) (rapdu d w)) (c .before .before .before .word-of .ensures), h .1)
 
 pub put-rapdu-spec : {M : Type 1} → statement M
 put-rapdu-spec =
@@ -56,10 +77,11 @@ put-rapdu-spec =
     (tie.spec
     fill-requires
     add-put-length
+    data-count-requires
     add-put-length-2
     put-length-requires
-    copy-requires
-    add-end
+    put-data-requires
+    word-of-requires
     put-num-requires
     add-result
     same-length

@@ -1,4 +1,5 @@
 -- `expanded::answer::rapdu_size` meets its contract. Assumes nothing.
+use native.Mathlib.Omega.{arith}
 use Rattle.expanded.specs.Expanded.{rapduSize}
 use borrow.Author.Needs.{needs}
 use Rattle.expanded.proofs.answer.rapdu_size.Statement.{statement}
@@ -21,7 +22,7 @@ add-result-3 c = search needs
 
 returns : tie.Need-returns
 unfolding rapduSize
-returns c = rw (c .length-size .ensures .0)
+returns c = (rw (c .length-size .ensures .0), omega arith)
 
 pub rapdu-size-spec : {M : Type 1} → statement M
 rapdu-size-spec =

@@ -1,0 +1,127 @@
+-- `engine::scripts::run_expanded` meets its contract: the value of the template that the script has. Assumes nothing.
+use mathlib.Core.Path.{_≡_, sym, ap, subst, _∙_}
+use native.Mathlib.Omega.{arith}
+use lib.ListN.{length}
+use borrow.Author.Needs.{needs}
+use Rattle.card.specs.Row.{Card, lent}
+use Rattle.expanded.specs.declared.template.Template.{Template}
+use Rattle.expanded.specs.Templates.{TemplateFits}
+use Rattle.engine.specs.declared.Answer.{Answer}
+use Rattle.engine.specs.Numbers.{Arguments}
+use Rattle.engine.specs.Calls.{gives}
+use Rattle.engine.proofs.Answers.{numbered-small}
+use Rattle.engine.proofs.Ended.{definite-script, indefinite-script, no-template, known-lies}
+use Rattle.engine.proofs.scripts.run_expanded.Statement.{statement}
+use Rattle.engine.proofs.scripts.run_expanded.Tie as tie
+
+abbrev cardOf : tie.Start → Card
+cardOf s = lent (s .args .table .now) (s .args .files .now) (s .args .journal .now)
+
+abbrev argumentsOf : tie.Start → Arguments
+argumentsOf s =
+    record {
+      application = s .args .application;
+      domain = s .args .domain;
+      format = 1;
+      script = s .args .script .now;
+      response = s .args .response .now;
+    }
+
+template-of-requires : tie.Need-template-of-requires
+template-of-requires c κs = search needs
+
+enum-known-at : tie.Need-enum-known-at
+enum-known-at c = search needs
+
+run-value-requires : tie.Need-run-value-requires
+unfolding TemplateFits
+run-value-requires c κs =
+    let s = c .before .before .before .before .before .before .before .before .before .before .before .before .before in
+    let lies = known-lies (c .before .before .before .before .before .at .given .1) (length (s .args .script .now)) (c .before .before .before .before .before .before .before .template-of .ensures .1) in
+    (lies .0, lies .1, s .pre .0, s .pre .1, s .pre .2, s .pre .3, s .pre .4, s .pre .5)
+
+enum-known-at-2 : tie.Need-enum-known-at-2
+enum-known-at-2 c = search needs
+
+run-value-requires-2 : tie.Need-run-value-requires-2
+unfolding TemplateFits
+run-value-requires-2 c κs =
+    let s = c .before .before .before .before .before .before .before .before .before .before .before .before .before in
+    let lies = known-lies (c .before .before .before .before .before .at2 .given .1) (length (s .args .script .now)) (c .before .before .before .before .before .before .before .template-of .ensures .1) in
+    (lies .0, lies .1, s .pre .0, s .pre .1, s .pre .2, s .pre .3, s .pre .4, s .pre .5)
+
+enum-told : tie.Need-enum-told
+enum-told c = search needs
+
+numbered-requires : tie.Need-numbered-requires
+numbered-requires c κs = search needs
+
+same-length : tie.Need-same-length
+same-length c = search needs
+
+same-length-2 : tie.Need-same-length-2
+same-length-2 c = search needs
+
+same-length-3 : tie.Need-same-length-3
+same-length-3 c = search needs
+
+same-length-4 : tie.Need-same-length-4
+same-length-4 c = search needs
+
+returns : tie.Need-returns
+returns c =
+    let s = c .before .before .before .before .before .before .before .before .before .before .before .before .before .before .before .before .before .before .before .before .before .before in
+    let t = c .before .before .before .before .before .before .before .before .before .before .before .before .before .before .at .given in
+    let v = c .before .before .before .before .before .before .before .before .run-value .ensures in
+    (v .0 ∙ definite-script (argumentsOf s) (cardOf s) _ _ (sym (c .before .before .before .before .before .before .before .before .before .before .before .before .before .before .before .before .template-of .ensures .0) ∙ t .1), v .1)
+
+same-length-5 : tie.Need-same-length-5
+same-length-5 c = search needs
+
+same-length-6 : tie.Need-same-length-6
+same-length-6 c = search needs
+
+same-length-7 : tie.Need-same-length-7
+same-length-7 c = search needs
+
+same-length-8 : tie.Need-same-length-8
+same-length-8 c = search needs
+
+returns-2 : tie.Need-returns-2
+returns-2 c =
+    let s = c .before .before .before .before .before .before .before .before .before .before .before .before .before .before .before .before .before .before .before .before .before .before in
+    let t = c .before .before .before .before .before .before .before .before .before .before .before .before .before .before .at2 .given in
+    let v = c .before .before .before .before .before .before .before .before .run-value2 .ensures in
+    (v .0 ∙ indefinite-script (argumentsOf s) (cardOf s) _ _ (sym (c .before .before .before .before .before .before .before .before .before .before .before .before .before .before .before .before .template-of .ensures .0) ∙ t .1), v .1)
+
+returns-3 : tie.Need-returns-3
+returns-3 c =
+    let s = c .before .before .before .before .before .before .before .before .before in
+    (
+      ap (λ (x : Answer). gives x (cardOf s) (s .args .response .now)) (c .numbered .ensures)
+          ∙ no-template (argumentsOf s) (cardOf s) (sym (c .before .before .before .template-of .ensures .0) ∙ c .before .enum-told .given .1),
+      numbered-small _ _ (c .numbered .ensures) (omega arith),
+    )
+
+pub run-expanded-spec : {M : Type 1} → statement M
+run-expanded-spec =
+    tie.close
+    (tie.spec
+    template-of-requires
+    enum-known-at
+    run-value-requires
+    enum-known-at-2
+    run-value-requires-2
+    enum-told
+    numbered-requires
+    same-length
+    same-length-2
+    same-length-3
+    same-length-4
+    returns
+    same-length-5
+    same-length-6
+    same-length-7
+    same-length-8
+    returns-2
+    returns-3)

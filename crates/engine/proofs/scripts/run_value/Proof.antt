@@ -1,0 +1,89 @@
+-- `engine::scripts::run_value` meets its contract. Assumes nothing.
+use mathlib.Core.Path.{sym}
+use Prim.Native.Nat.{_+_}
+use native.Mathlib.Omega.{arith}
+use lib.ListN.{length-take}
+use lib.Seq.{length-take-le}
+use borrow.Author.Needs.{needs}
+use Rattle.card.specs.Row.{Card, lent}
+use Rattle.engine.specs.Numbers.{Arguments}
+use Rattle.engine.proofs.Ended.{expanded-small, value-gives}
+use Rattle.engine.proofs.scripts.run_value.Statement.{statement}
+use Rattle.engine.proofs.scripts.run_value.Tie as tie
+
+abbrev cardOf : tie.Start → Card
+cardOf s = lent (s .args .table .now) (s .args .files .now) (s .args .journal .now)
+
+abbrev argumentsOf : tie.Start → Arguments
+argumentsOf s =
+    record {
+      application = s .args .application;
+      domain = s .args .domain;
+      format = 1;
+      script = s .args .script .now;
+      response = s .args .response .now;
+    }
+
+slice-aggregate-run : tie.Need-slice-aggregate-run
+slice-aggregate-run c = search needs
+
+run-requires : tie.Need-run-requires
+run-requires c κs = search needs
+
+add-gathered : tie.Need-add-gathered
+add-gathered c = search needs
+
+array-share-prefix-rapdus : tie.Need-array-share-prefix-rapdus
+array-share-prefix-rapdus c = search needs
+
+slice-aggregate-put-answer : tie.Need-slice-aggregate-put-answer
+slice-aggregate-put-answer c =
+    let r = c .before .before .before .before .before .before .before .before .before .before .before .run in
+    sym (length-take-le (r .result .kept + r .result .last) _ (omega (arith, r .ensures .1)))
+
+put-answer-requires : tie.Need-put-answer-requires
+put-answer-requires c κs =
+    let r = c .before .before .before .before .before .before .before .before .before .before .before .run in
+    (
+      omega (arith, c .before .before .before .before .before .before .before .before .before .before .before .before .before .before .before .before .before .before .before .before .before .pre .7),
+      rw length-take (omega (arith, r .ensures .1)),
+      r .ensures .2,
+    )
+
+same-length : tie.Need-same-length
+same-length c = search needs
+
+same-length-2 : tie.Need-same-length-2
+same-length-2 c = search needs
+
+same-length-3 : tie.Need-same-length-3
+same-length-3 c = search needs
+
+same-length-4 : tie.Need-same-length-4
+same-length-4 c = search needs
+
+returns : tie.Need-returns
+returns c =
+    let s = c .before .before .before .before .before .before .before .before .before .before .before .before .before .before .before .before .before .before .before .before .before .before .before .before in
+    let r = c .before .before .before .before .before .before .before .before .before .before .before .before .before .before .run in
+    let p = c .before .before .put-answer .ensures in
+    (
+      value-gives (s .args .definite) (s .args .at) (s .args .end) (argumentsOf s) (cardOf s) (r .result) _ _ _ _ (r .ensures .0) (p .0) (p .1),
+      expanded-small (s .args .definite) (r .result .step .count) _ (rw length-take (omega (arith, r .ensures .1))) (r .ensures .2) _ (p .1),
+    )
+
+pub run-value-spec : {M : Type 1} → statement M
+run-value-spec =
+    tie.close
+    (tie.spec
+    slice-aggregate-run
+    run-requires
+    add-gathered
+    array-share-prefix-rapdus
+    slice-aggregate-put-answer
+    put-answer-requires
+    same-length
+    same-length-2
+    same-length-3
+    same-length-4
+    returns)

@@ -1,0 +1,75 @@
+-- `expanded::answer::put_definite` meets its contract: the answer's parts are written one behind another. Assumes nothing.
+use native.Mathlib.Omega.{arith}
+use Prim.Native.Nat.{_+_}
+use lib.ListN.{length}
+use borrow.Author.Needs.{needs}
+use Rattle.expanded.proofs.Written.{length-few, definite-written}
+use Rattle.expanded.proofs.answer.put_definite.Statement.{statement}
+use Rattle.expanded.proofs.answer.put_definite.Tie as tie
+
+count-size-requires : tie.Need-count-size-requires
+count-size-requires c κs = search needs
+
+fill-requires : tie.Need-fill-requires
+fill-requires c κs = search needs
+
+add-put-length : tie.Need-add-put-length
+add-put-length c = search needs
+
+add-put-length-2 : tie.Need-add-put-length-2
+add-put-length-2 c = search needs
+
+put-length-requires : tie.Need-put-length-requires
+put-length-requires c κs = search needs
+
+cast-t18 : tie.Need-cast-t18
+cast-t18 c = search needs
+
+slice-aggregate-copy : tie.Need-slice-aggregate-copy
+slice-aggregate-copy c = search needs
+
+copy-requires : tie.Need-copy-requires
+copy-requires c κs = let few = length-few (2 + (c .before .before .before .before .before .before .before .before .before .before .count-size .result + length (c .before .before .before .before .before .before .before .before .before .before .before .before .before .args .rapdus .now))) in omega arith
+
+add-put-count : tie.Need-add-put-count
+add-put-count c = let few = length-few (2 + (c .before .before .before .before .before .before .before .before .before .before .before .before .before .before .count-size .result + length (c .before .before .before .before .before .before .before .before .before .before .before .before .before .before .before .before .before .args .rapdus .now))) in omega arith
+
+put-count-requires : tie.Need-put-count-requires
+put-count-requires c κs = let few = length-few (2 + (c .before .before .before .before .before .before .before .before .before .before .before .before .before .before .count-size .result + length (c .before .before .before .before .before .before .before .before .before .before .before .before .before .before .before .before .before .args .rapdus .now))) in omega arith
+
+copy-requires-2 : tie.Need-copy-requires-2
+copy-requires-2 c κs = let few = length-few (2 + (c .before .before .before .before .before .before .before .before .before .before .before .before .before .before .before .before .before .before .count-size .result + length (c .before .before .before .before .before .before .before .before .before .before .before .before .before .before .before .before .before .before .before .before .before .args .rapdus .now))) in omega arith
+
+add-result : tie.Need-add-result
+add-result c = let few = length-few (2 + (c .before .before .before .before .before .before .before .before .before .before .before .before .before .before .before .before .before .before .before .before .before .count-size .result + length (c .before .before .before .before .before .before .before .before .before .before .before .before .before .before .before .before .before .before .before .before .before .before .before .before .args .rapdus .now))) in omega arith
+
+same-length : tie.Need-same-length
+same-length c = search needs
+
+returns : tie.Need-returns
+returns c =
+    let s = c .before .before .before .before .before .before .before .before .before .before .before .before .before .before .before .before .before .before .before .before .before .before .before .before in
+    let n = c .before .before .before .before .before .before .before .before .before .before .before .before .before .before .before .before .before .before .before .before .before .count-size in
+    let l = c .before .before .before .before .before .before .before .before .before .before .before .before .before .before .before .put-length in
+    let k = c .before .before .before .before .before .before .put-count in
+    definite-written (s .args .response .now) (s .args .count) (s .args .rapdus .now) (s .pre .0) (s .pre .1) (n .ensures .0) (n .ensures .1)
+    (c .before .before .before .before .before .before .before .before .before .before .before .before .before .before .before .before .before .before .before .fill .ensures) (l .ensures .0) (l .ensures .1) (c .before .before .before .before .before .before .before .before .before .before .copy .ensures) (k .ensures .0) (k .ensures .1) (c .before .before .copy2 .ensures)
+
+pub put-definite-spec : {M : Type 1} → statement M
+put-definite-spec =
+    tie.close
+    (tie.spec
+    count-size-requires
+    fill-requires
+    add-put-length
+    add-put-length-2
+    put-length-requires
+    cast-t18
+    slice-aggregate-copy
+    copy-requires
+    add-put-count
+    put-count-requires
+    copy-requires-2
+    add-result
+    same-length
+    returns)

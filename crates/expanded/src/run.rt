@@ -1,0 +1,229 @@
+// Running an expanded script.
+use crate::answer::put_bad;
+use crate::answer::put_rapdu;
+use crate::answer::rapdu_size;
+use crate::capdu::command_of;
+use crate::template::Item;
+use crate::template::capdu;
+use crate::template::item_at;
+use command::Command;
+use command::Format;
+use command::Outcome;
+use command::Step;
+use command::ends::data_count;
+use command::ends::goes_on;
+use command::ends::word_of;
+use session::Session;
+use step::act::carry_out;
+use step::decide::decide;
+use step::plan::Decision;
+use step::plan::failed;
+ghost use mathlib.Core.Path.{_≡_};
+ghost use mathlib.Core.Bool.{true};
+ghost use mathlib.Core.List.{List};
+ghost use Prim.Native.Nat.{ℕ, _+_, _≤_, _<_};
+ghost use lib.ListN.{length};
+ghost use Rattle.octets.specs.Bytes.{overwrite};
+ghost use Rattle.card.specs.Row.{Card, lent, entries, rowOf};
+ghost use Rattle.card.specs.Tree.{isRoot};
+ghost use Rattle.journal.specs.Entries.{scriptsOnTrial};
+ghost use Rattle.journal.specs.Sound.{soundCard};
+ghost use Rattle.session.specs.Good.{Good};
+ghost use Rattle.command.specs.Outcomes.{Plan, wordOf, dataCount, OutcomeFits, goesOn};
+ghost use Rattle.command.specs.Commands.{stateOf, situation, planned, carriedOut, stepped};
+ghost use Rattle.step.specs.Decisions.{Ready, Decided};
+ghost use Rattle.expanded.specs.Expanded as spec;
+
+// "would pass 1,000 bytes"
+const MOST_KEPT: usize = 1000;
+
+// The bytes that a script's R-APDUs are gathered in: 1,000, and the R-APDU of a last command without data.
+pub const ROOM_TO_GATHER: usize = 1004;
+
+// A script after some commands whose R-APDUs are gathered in a lent buffer: its step, how many of the bytes are kept, and how many
+// behind these stand there for the last command.
+pub struct Gathered {
+    pub step: Step,
+    pub kept: usize,
+    pub last: usize,
+}
+
+// Whether the R-APDU of a command of a case is kept.
+fn keeps(definite: bool, case: usize) -> bool
+    ensures { λ b. ⌜ b ≡ spec.keeps definite case ⌝ }
+{
+    !definite | ((case == 2) | (case == 4))
+}
+
+// What was decided, under the 1,000-byte rule.
+fn limited(d: Decision, s: Session, kept: usize, counts: bool) -> Decision
+    requires { ⌜ (kept ≤ 1000) × (dataCount (d .outcome) ≤ 256) ⌝ }
+    ensures { λ r. ⌜ ((card : Card) («data» : List ℕ) (plan : Plan) → Decided card «data» plan d → Decided card «data» (spec.limited kept counts s plan) r) ⌝ }
+{
+    let outcome = d.outcome;
+    if counts & (MOST_KEPT < kept + rapdu_size(data_count(outcome))) {
+        return failed(s, 0x6F00);
+    }
+    d
+}
+
+// A command with its data is run under the 1,000-byte rule: the script's step after it.
+fn run_limited(
+    domain: usize,
+    c: Command,
+    data: &[u8],
+    kept: usize,
+    counts: bool,
+    before: Step,
+    table: &mut [u8],
+    files: &mut [u8],
+    journal: &mut [u8],
+) -> Step
+    requires { ⌜ Ready (lent (now table) (now files) (now journal)) (before .session) c (length (now «data»)) × (before .count < 65535) × (kept ≤ 1000) ⌝ }
+    ensures { λ r. ⌜ stateOf r (lent (now (table .exit)) (now (files .exit)) (now (journal .exit)))
+        ≡ stepped (stateOf before (lent (now (table .entry)) (now (files .entry)) (now (journal .entry))))
+        (carriedOut (spec.limited kept counts (before .session) (planned (situation Format.Expanded domain c (now («data» .entry)) (before .session) (lent (now (table .entry)) (now (files .entry)) (now (journal .entry))))))
+        (lent (now (table .entry)) (now (files .entry)) (now (journal .entry)))) ⌝ }
+{
+    let s = before.session;
+    let d = decide(Format::Expanded, domain, c, data, s, table, files, journal);
+    carry_out(
+        limited(d, s, kept, counts),
+        data,
+        before.count,
+        table,
+        files,
+        journal,
+    )
+}
+
+// The R-APDU of a script's last command is gathered behind those kept.
+fn gather(counts: bool, step: Step, kept: usize, out: &mut [u8], files: &[u8]) -> Gathered
+    requires { ⌜ OutcomeFits (length (now files)) (step .outcome) × (kept + spec.rapduSize (dataCount (step .outcome)) ≤ length (now out)) ⌝ }
+    ensures { λ r. ⌜ (now (out .exit) ≡ overwrite (now (out .entry)) kept (spec.lastRapdu step (now (files .entry)))) × (length (spec.lastRapdu step (now (files .entry))) ≡ spec.rapduSize (dataCount (step .outcome))) × (r ≡ spec.gatheredIn counts step kept (spec.rapduSize (dataCount (step .outcome)))) ⌝ }
+{
+    let outcome = step.outcome;
+    let session = step.session;
+    let waiting = session.waiting;
+    let end = put_rapdu(out, kept, outcome, files, &waiting);
+    if counts {
+        return Gathered {
+            step,
+            kept: end,
+            last: 0,
+        };
+    }
+    Gathered {
+        step,
+        kept,
+        last: end - kept,
+    }
+}
+
+// A C-APDU is run, and its R-APDU is gathered.
+fn step_capdu(
+    definite: bool,
+    domain: usize,
+    capdu: &[u8],
+    before: Gathered,
+    out: &mut [u8],
+    table: &mut [u8],
+    files: &mut [u8],
+    journal: &mut [u8],
+) -> Gathered
+    requires { ⌜ (4 ≤ length (now capdu)) × (soundCard (lent (now table) (now files) (now journal)) ≡ true) × Good (now table) (before .step .session) × (before .step .count < 65535) × (before .kept ≤ 1000) × (length (now out) ≡ 1004) ⌝ }
+    ensures { λ r. ⌜ (spec.progressOf r (lent (now (table .exit)) (now (files .exit)) (now (journal .exit))) (now (out .exit)) ≡ spec.stepCapdu definite domain (now (capdu .entry)) (spec.progressOf before (lent (now (table .entry)) (now (files .entry)) (now (journal .entry))) (now (out .entry))))
+        × (r .kept + r .last ≤ 1004) × (goesOn (wordOf (r .step .outcome)) ≡ true → r .kept ≤ 1000) ⌝ }
+{
+    let r = command_of(capdu);
+    let from = r.from;
+    let end = from + r.count;
+    let c = r.command;
+    let counts = keeps(definite, c.case);
+    let kept = before.kept;
+    let step = run_limited(
+        domain,
+        c,
+        &capdu[from..end],
+        kept,
+        counts,
+        before.step,
+        table,
+        files,
+        journal,
+    );
+    gather(counts, step, kept, out, files)
+}
+
+// A Bad format TLV is gathered as the last command.
+fn step_bad(code: usize, before: Gathered, out: &mut [u8]) -> Gathered
+    requires { ⌜ (code < 256) × (before .step .count < 65535) × (before .kept ≤ 1000) × (length (now out) ≡ 1004) ⌝ }
+    ensures { λ r. ⌜ ((card : Card) → spec.progressOf r card (now (out .exit)) ≡ spec.stepBad code (spec.progressOf before card (now (out .entry)))) × (r .kept + r .last ≤ 1004) ⌝ }
+{
+    let kept = before.kept;
+    let place = put_bad(out, kept, code);
+    let mut step = before.step;
+    step.count += 1;
+    Gathered {
+        step,
+        kept,
+        last: place - kept,
+    }
+}
+
+// The items from a place to the end of a template's value are run, as a script of an application on a sound card with the script's mark.
+pub fn run(
+    script: &[u8],
+    definite: bool,
+    at: usize,
+    end: usize,
+    application: usize,
+    domain: usize,
+    out: &mut [u8],
+    table: &mut [u8],
+    files: &mut [u8],
+    journal: &mut [u8],
+) -> Gathered
+    requires { ⌜ (at ≤ end) × (end ≤ length (now script)) × (length (now script) ≤ 1024) × (soundCard (lent (now table) (now files) (now journal)) ≡ true) × (1 ≤ scriptsOnTrial (now journal)) × (application < entries (now table)) × (isRoot (rowOf (now table) application) ≡ true) × (length (now out) ≡ 1004) ⌝ }
+    ensures { λ r. ⌜ (spec.progressOf r (lent (now (table .exit)) (now (files .exit)) (now (journal .exit))) (now (out .exit)) ≡ spec.runFrom (length (now (script .entry))) (now (script .entry)) domain definite at end (spec.begun application (lent (now (table .entry)) (now (files .entry)) (now (journal .entry)))))
+        × (r .kept + r .last ≤ 1004) × (r .step .count ≤ 1024) ⌝ }
+{
+    let mut g = Gathered {
+        step: Step {
+            session: session::start(application),
+            outcome: Outcome::Well(0x9000),
+            count: 0,
+        },
+        kept: 0,
+        last: 0,
+    };
+    let mut place: usize = at;
+    loop {
+        match item_at(script, place, end) {
+            Item::Capdu(from, size) => {
+                g = step_capdu(
+                    definite,
+                    domain,
+                    capdu(script, from, size),
+                    g,
+                    out,
+                    table,
+                    files,
+                    journal,
+                );
+                let step = g.step;
+                let outcome = step.outcome;
+                if !goes_on(word_of(outcome)) {
+                    return g;
+                }
+                place = from + size;
+            }
+            Item::Bad(code) => {
+                return step_bad(code, g, out);
+            }
+            Item::End => {
+                return g;
+            }
+        }
+    }
+}
