@@ -35,8 +35,7 @@ same-length-3 c = search needs
 returns : tie.Need-returns
 returns c =
     let a = c .before .before .before .before .before .before .before .before .before .args in
-    let card : Card = lent (a .table .now) (a .files .now) (a .journal .now) in
-    (
+    let card : Card = lent (a .table .now) (a .files .now) (a .journal .now) in (
       ap (λ (x : Answer). gives x card []) (c .numbered .ensures)
           ∙ sym (confirm-unsound card (sym (c .before .before .sound-card .ensures) ∙ not-true (c .before .before .sound-card .result) (c .before .if1 .taken))),
       numbered-small _ _ (c .numbered .ensures) (omega arith),
@@ -72,8 +71,7 @@ returns-2 c =
     let card : Card = lent (a .table .now) (a .files .now) (a .journal .now) in
     let sound : soundCard card ≡ true =
     sym (c .before .before .before .before .before .before .sound-card .ensures) ∙ not-false (c .before .before .before .before .before .before .sound-card .result) (c .before .before .before .before .before .if1 .left)
-    in
-    (
+    in (
       ap₂ (λ (x : Answer) (j : List ℕ). gives x (lent (a .table .now) (a .files .now) j) []) (c .numbered2 .ensures) (c .before .before .before .confirm .ensures)
           ∙ sym (confirm-done card sound),
       numbered-small _ _ (c .numbered2 .ensures) (omega arith),

@@ -34,8 +34,7 @@ same-length-3 c = search needs
 returns : tie.Need-returns
 returns c =
     let a = c .before .before .before .before .before .before .before .before .before .args in
-    let card : Card = lent (a .table .now) (a .files .now) (a .journal .now) in
-    (
+    let card : Card = lent (a .table .now) (a .files .now) (a .journal .now) in (
       ap (λ (x : Answer). gives x card []) (c .numbered .ensures)
           ∙ sym (back-unsound card (sym (c .before .before .sound-card .ensures) ∙ not-true (c .before .before .sound-card .result) (c .before .if1 .taken))),
       numbered-small _ _ (c .numbered .ensures) (omega arith),
@@ -69,8 +68,7 @@ returns-2 c =
     let card : Card = lent (a .table .now) (a .files .now) (a .journal .now) in
     let sound : soundCard card ≡ true =
     sym (c .before .before .before .before .before .sound-card .ensures) ∙ not-false (c .before .before .before .before .before .sound-card .result) (c .before .before .before .before .if1 .left)
-    in
-    (
+    in (
       ap (λ (x : Answer). gives x card []) (c .numbered2 .ensures)
           ∙ sym (back-none card sound (sym (c .before .before .scripts-on-trial .ensures .0) ∙ c .before .if2 .taken)),
       numbered-small _ _ (c .numbered2 .ensures) (omega arith),
@@ -109,8 +107,7 @@ returns-3 c =
     in
     let some : scriptsOnTrial (card .journal) ≡ 0 → ⊥ =
     λ none. c .before .before .before .before .before .before .before .before .before .before .before .if2 .left (c .before .before .before .before .before .before .before .before .before .before .before .before .scripts-on-trial .ensures .0 ∙ none)
-    in
-    (
+    in (
       ap₂ (λ (x : Answer) (k : Card). gives x k []) (c .numbered3 .ensures) (c .before .before .before .before .before .before .before .take-back .ensures)
           ∙ sym (back-done card sound some),
       numbered-small _ _ (c .numbered3 .ensures) (omega arith),

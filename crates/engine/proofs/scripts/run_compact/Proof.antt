@@ -32,7 +32,7 @@ run-requires c κs = search needs
 
 -- what the run left has room
 module _ (s : tie.Start) (small : (i : ℕ) → byte (s .args .script .now) i < 256) (step : Step) (after : Card)
-  (e : stateOf step after ≡ compact.run (s .args .script .now) (s .args .application) (s .args .domain) (cardOf s)) where
+    (e : stateOf step after ≡ compact.run (s .args .script .now) (s .args .application) (s .args .domain) (cardOf s)) where
   room : OutcomeFits (length (after .files)) (step .outcome) × (step .count < 256) × (3 + dataCount (step .outcome) ≤ length (s .args .response .now)) × (length (step .session .waiting) ≡ 255)
   room =
       compact-room (s .args .script .now) small (s .args .application) (s .args .domain) (cardOf s) (s .pre .0) (s .pre .1) (s .pre .2) (s .pre .3) (s .pre .4) step after
@@ -62,8 +62,7 @@ returns c =
     let s = c .before .before .before .before .before .before .before .before .before .before .before .before .before .before .before .before .before .before .before .before in
     let step = c .before .before .before .before .before .before .before .before .before .before .before .run .result in
     let e = c .before .before .before .before .before .before .before .before .before .before .before .run .ensures in
-    let fits = room s (λ i. c .before .before .before .before .before .before .before .before .before .before .before .before .before .before .before .before .before .before .before .shared-slice-known .given i .fits) step _ e in
-    (
+    let fits = room s (λ i. c .before .before .before .before .before .before .before .before .before .before .before .before .before .before .before .before .before .before .before .shared-slice-known .given i .fits) step _ e in (
       compact-gives (argumentsOf s) (cardOf s) step _ _ _ e (c .before .before .put-answer .ensures .0) (c .before .before .put-answer .ensures .1),
       compact-small step _ (fits .0) (fits .1) (fits .3) _ (c .before .before .put-answer .ensures .1),
     )

@@ -96,8 +96,7 @@ returns-2 c =
 
 returns-3 : tie.Need-returns-3
 returns-3 c =
-    let s = c .before .before .before .before .before .before .before .before .before in
-    (
+    let s = c .before .before .before .before .before .before .before .before .before in (
       ap (λ (x : Answer). gives x (cardOf s) (s .args .response .now)) (c .numbered .ensures)
           ∙ no-template (argumentsOf s) (cardOf s) (sym (c .before .before .before .template-of .ensures .0) ∙ c .before .enum-told .given .1),
       numbered-small _ _ (c .numbered .ensures) (omega arith),

@@ -43,8 +43,7 @@ slice-aggregate-put-answer c =
 
 put-answer-requires : tie.Need-put-answer-requires
 put-answer-requires c κs =
-    let r = c .before .before .before .before .before .before .before .before .before .before .before .run in
-    (
+    let r = c .before .before .before .before .before .before .before .before .before .before .before .run in (
       omega (arith, c .before .before .before .before .before .before .before .before .before .before .before .before .before .before .before .before .before .before .before .before .before .pre .7),
       rw length-take (omega (arith, r .ensures .1)),
       r .ensures .2,
@@ -66,8 +65,7 @@ returns : tie.Need-returns
 returns c =
     let s = c .before .before .before .before .before .before .before .before .before .before .before .before .before .before .before .before .before .before .before .before .before .before .before .before in
     let r = c .before .before .before .before .before .before .before .before .before .before .before .before .before .before .run in
-    let p = c .before .before .put-answer .ensures in
-    (
+    let p = c .before .before .put-answer .ensures in (
       value-gives (s .args .definite) (s .args .at) (s .args .end) (argumentsOf s) (cardOf s) (r .result) _ _ _ _ (r .ensures .0) (p .0) (p .1),
       expanded-small (s .args .definite) (r .result .step .count) _ (rw length-take (omega (arith, r .ensures .1))) (r .ensures .2) _ (p .1),
     )

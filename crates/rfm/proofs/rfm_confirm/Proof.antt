@@ -1,0 +1,34 @@
+-- `rfm::rfm_confirm` meets its contract. Assumes nothing.
+use borrow.Author.Needs.{needs}
+use Rattle.rfm.proofs.Crossing.{crossing}
+use Rattle.rfm.proofs.rfm_confirm.Statement.{statement}
+use Rattle.rfm.proofs.rfm_confirm.Tie as tie
+
+confirm-requires : tie.Need-confirm-requires
+confirm-requires c κs = search needs
+
+packed-answer-requires : tie.Need-packed-answer-requires
+packed-answer-requires c κs = search needs
+
+same-length : tie.Need-same-length
+same-length c = search needs
+
+same-length-2 : tie.Need-same-length-2
+same-length-2 c = search needs
+
+same-length-3 : tie.Need-same-length-3
+same-length-3 c = search needs
+
+returns : tie.Need-returns
+returns c = crossing (c .before .before .before .before .before .before .before .confirm .result) _ _ _ _ (c .before .before .before .before .before .before .before .confirm .ensures .0) (c .packed-answer .ensures)
+
+pub rfm-confirm-spec : {M : Type 1} → statement M
+rfm-confirm-spec =
+    tie.close
+    (tie.spec
+    confirm-requires
+    packed-answer-requires
+    same-length
+    same-length-2
+    same-length-3
+    returns)
