@@ -138,8 +138,10 @@ pub fn own_sound(files: usize, r: Row) -> bool
 fn named_apart(a: Row, b: Row) -> bool
     ensures { λ t. ⌜ t ≡ namedApart a b ⌝ }
 {
-    !((can_be_child(a) & can_be_child(b))
-        & ((a.parent == b.parent) & (a.identifier == b.identifier)))
+    if a.identifier != b.identifier {
+        return true;
+    }
+    !((can_be_child(a) & can_be_child(b)) & (a.parent == b.parent))
 }
 
 // Two entries do not overlap.
@@ -147,7 +149,10 @@ fn lie_apart(a: Row, b: Row) -> bool
     requires { ⌜ Narrow a × Narrow b ⌝ }
     ensures { λ t. ⌜ t ≡ lieApart a b ⌝ }
 {
-    (a.start + a.size <= b.start) | (b.start + b.size <= a.start)
+    if a.start + a.size <= b.start {
+        return true;
+    }
+    b.start + b.size <= a.start
 }
 
 // Two entries.
@@ -155,5 +160,8 @@ pub fn pair_sound(a: Row, b: Row) -> bool
     requires { ⌜ Narrow a × Narrow b ⌝ }
     ensures { λ t. ⌜ t ≡ pairSound a b ⌝ }
 {
-    named_apart(a, b) & lie_apart(a, b)
+    if !named_apart(a, b) {
+        return false;
+    }
+    lie_apart(a, b)
 }

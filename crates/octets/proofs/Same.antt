@@ -1,6 +1,6 @@
 -- What the comparisons of runs of bytes tell, and how each goes on by one byte. Assumes nothing.
 use mathlib.Core.Path.{_≡_, refl, sym, ap, _∙_}
-use mathlib.Core.Bool.{Bool, true, false, _&&_, and-false, false≢true}
+use mathlib.Core.Bool.{Bool, true, false, _&&_, and-false, false≢true, and-assoc, and-true}
 use mathlib.Core.List.{List, [], _∷_, _++_}
 use Prim.Native.Nat.{ℕ, zero, suc, _+_, _≤_, _<_}
 use native.Mathlib.Nat.{le-of-suc-le-suc, not-suc-le-zero}
@@ -35,22 +35,17 @@ unfolding allZero
 zero-zeros zero = refl
 zero-zeros (suc n) = zero-zeros n
 
+-- gathered byte by byte: what was found before place i, and what is left from there on
+module _ {t : Bool} (found : Bool) (m : List ℕ) (i : ℕ) (left : t ≡ (found && allZero (drop i m))) where
+  pub zero-more : i < length m → t ≡ ((found && eqb (byte m i) 0) && allZero (drop (i + 1) m))
+  unfolding allZero
+  zero-more h = left ∙ (rw (add-one, drop-cons m i 0) (sym (and-assoc found (eqb (byte m i) 0) (allZero (drop (suc i) m)))))
+
+  pub zero-ends : length m ≤ i → found ≡ t
+  unfolding allZero
+  zero-ends h = sym (left ∙ (rw (drop-of-length-le m h) (and-true found)))
+
 -- a comparison byte by byte: what is left from place i on tells what the whole does
-module _ {t : Bool} (m : List ℕ) (i : ℕ) (left : t ≡ allZero (drop i m)) where
-  zero-next : i < length m → t ≡ (eqb (byte m i) 0 && allZero (drop (i + 1) m))
-  unfolding allZero
-  zero-next h = left ∙ rw (add-one, drop-cons m i 0)
-
-  pub zero-goes-on : i < length m → byte m i ≡ 0 → t ≡ allZero (drop (i + 1) m)
-  zero-goes-on h e = rw (eq-eqb (byte m i) 0 e) at (zero-next h)
-
-  pub zero-fails : i < length m → (byte m i ≡ 0 → ⊥) → false ≡ t
-  zero-fails h e = sym (rw (ne-eqb (byte m i) 0 e) at (zero-next h))
-
-  pub zero-ends : length m ≤ i → true ≡ t
-  unfolding allZero
-  zero-ends h = sym (rw (drop-of-length-le m h) at left)
-
 module _ {t : Bool} (m d : List ℕ) (j i : ℕ) (left : t ≡ startsWith (drop j m) (drop i d)) where
   starts-next : j < length m → i < length d → t ≡ (eqb (byte m j) (byte d i) && startsWith (drop (j + 1) m) (drop (i + 1) d))
   unfolding startsWith

@@ -70,14 +70,13 @@ pub fn put_head(m: &mut [u8], used: usize, scripts: u8, flag: u8)
 pub fn all_zero(m: &[u8]) -> bool
     ensures { λ r. ⌜ r ≡ allZero (now (m .entry)) ⌝ }
 {
+    let mut zero = true;
     let mut i: usize = 0;
     while i < m.len() {
-        if m[i] != 0 {
-            return false;
-        }
+        zero = zero & (m[i] == 0);
         i += 1;
     }
-    true
+    zero
 }
 
 // Whether the bytes from a place on begin with a run of bytes.

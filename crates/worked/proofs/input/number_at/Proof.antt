@@ -1,0 +1,99 @@
+-- `worked::input::number_at` meets its contract: each `return` is a case of `numberAt`. Assumes nothing.
+use mathlib.Core.Path.{sym, _∙_}
+use Rattle.worked.specs.Digits.{NumberFits}
+use Rattle.worked.specs.Input.{numberAt, numberIn, before, FieldFits}
+use Rattle.worked.proofs.Reading.{line-lies, number-short, number-long, number-read, few-digits}
+use borrow.Author.Needs.{needs}
+use native.Mathlib.Omega.{arith}
+use Rattle.worked.proofs.input.number_at.Statement.{statement}
+use Rattle.worked.proofs.input.number_at.Tie as tie
+
+line-at-requires : tie.Need-line-at-requires
+line-at-requires c κs = search needs
+
+enum-known-from : tie.Need-enum-known-from
+enum-known-from c = search needs
+
+enum-told : tie.Need-enum-told
+enum-told c = search needs
+
+returns : tie.Need-returns
+unfolding numberAt numberIn FieldFits
+returns c = (rw (sym (c .before .before .line-at .ensures .0) ∙ c .enum-told .given .1), tt)
+
+sub-if1 : tie.Need-sub-if1
+sub-if1 c =
+    let h = line-lies _ _ _ (c .before .from .given .1) (c .before .before .before .line-at .ensures .1) in
+    omega arith
+
+returns-2 : tie.Need-returns-2
+unfolding FieldFits
+returns-2 c = (number-short _ _ _ _ _ _ _ _ (sym (c .before .before .before .before .line-at .ensures .0) ∙ c .before .before .from .given .1) (c .if1 .taken), tt)
+
+sub-if2 : tie.Need-sub-if2
+sub-if2 c =
+    let h = line-lies _ _ _ (c .before .before .from .given .1) (c .before .before .before .before .line-at .ensures .1) in
+    omega arith
+
+returns-3 : tie.Need-returns-3
+unfolding FieldFits
+returns-3 c = (number-long _ _ _ _ _ _ _ _ (sym (c .before .before .before .before .before .line-at .ensures .0) ∙ c .before .before .before .from .given .1) (c .before .if1 .left) (c .if2 .taken), tt)
+
+sub-number-of : tie.Need-sub-number-of
+sub-number-of c =
+    let h = line-lies _ _ _ (c .before .before .before .from .given .1) (c .before .before .before .before .before .line-at .ensures .1) in
+    omega arith
+
+part-number-of-start : tie.Need-part-number-of-start
+part-number-of-start c = line-lies _ _ _ (c .before .before .before .from .given .1) (c .before .before .before .before .before .line-at .ensures .1) .0
+
+part-number-of-end : tie.Need-part-number-of-end
+part-number-of-end c = line-lies _ _ _ (c .before .before .before .from .given .1) (c .before .before .before .before .before .line-at .ensures .1) .1
+
+number-of-requires : tie.Need-number-of-requires
+number-of-requires c κs = search needs
+
+enum-known-n : tie.Need-enum-known-n
+enum-known-n c = search needs
+
+enum-told-2 : tie.Need-enum-told-2
+enum-told-2 c = search needs
+
+returns-4 : tie.Need-returns-4
+unfolding before FieldFits
+returns-4 c = (number-read _ _ _ _ _ _ _ _ (sym (c .before .before .before .before .before .before .before .before .before .line-at .ensures .0) ∙ c .before .before .before .before .before .before .before .from .given .1) (c .before .before .before .before .before .if1 .left) (c .before .before .before .before .if2 .left) (sym (c .enum-told2 .given .1) ∙ c .before .before .number-of .ensures .0), tt)
+
+add-t11 : tie.Need-add-t11
+add-t11 c =
+    let h = line-lies _ _ _ (c .before .before .before .before .before .before .before .before .from .given .1) (c .before .before .before .before .before .before .before .before .before .before .line-at .ensures .1) in
+    omega arith
+
+returns-5 : tie.Need-returns-5
+unfolding before FieldFits NumberFits
+returns-5 c =
+    let a = c .before .before .before .before .before .before .before .before .before .before .before .before .before .args in
+    let h = line-lies _ _ _ (c .before .before .before .before .before .before .before .before .from .given .1) (c .before .before .before .before .before .before .before .before .before .before .line-at .ensures .1) in
+    let small = rw (c .before .n .given .1) at (c .before .before .before .number-of .ensures .1) in
+    (number-read _ _ _ _ _ _ _ _ (sym (c .before .before .before .before .before .before .before .before .before .before .line-at .ensures .0) ∙ c .before .before .before .before .before .before .before .before .from .given .1) (c .before .before .before .before .before .before .if1 .left) (c .before .before .before .before .before .if2 .left) (sym (c .before .n .given .1) ∙ c .before .before .before .number-of .ensures .0), (few-digits (a .input .now) _ _ (a .base) (a .most) _ (h .0) (h .1) (c .before .before .before .before .before .if2 .left) (omega arith) small, omega arith))
+
+pub number-at-spec : {M : Type 1} → statement M
+number-at-spec =
+    tie.close
+    (tie.spec
+    line-at-requires
+    enum-known-from
+    enum-told
+    returns
+    sub-if1
+    returns-2
+    sub-if2
+    returns-3
+    sub-number-of
+    part-number-of-start
+    part-number-of-end
+    number-of-requires
+    enum-known-n
+    enum-told-2
+    returns-4
+    add-t11
+    returns-5)

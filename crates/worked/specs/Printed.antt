@@ -1,0 +1,60 @@
+-- What the program prints. "refusal is the call number, executed the count, response the answer, used U and scripts byte 2 after
+-- the run."
+use Prim.Native.Nat.{ℕ, _-_}
+use mathlib.Core.List.{List, [], _∷_, _++_}
+use Rattle.octets.specs.Bytes.{part, zeros}
+use Rattle.journal.specs.Entries.{usedBytes, scriptsOnTrial}
+use Rattle.engine.specs.Calls.{Result, run}
+use Rattle.engine.specs.Worked.{worked, answerOf}
+use Rattle.worked.specs.declared.input.Call.{Call}
+use Rattle.worked.specs.declared.input.Input.{Input}
+use Rattle.worked.specs.declared.input.Input.the-variants.{Run, Bad}
+use Rattle.worked.specs.Digits.{ascii, decoded, hexOf, decimal}
+use Rattle.worked.specs.Input.{lineFeed, inputOf}
+
+-- a line: a name, a value and a line feed
+unfoldable pub named : List ℕ → List ℕ → List ℕ
+named name value = name ++ (value ++ (lineFeed ∷ []))
+
+-- the five lines
+unfoldable pub fiveLines : ℕ → ℕ → List ℕ → ℕ → ℕ → List ℕ
+fiveLines refusal executed response used scripts =
+    named (ascii "refusal=") (decimal refusal)
+    ++ (named (ascii "executed=") (decimal executed)
+    ++ (named (ascii "response=") (hexOf response)
+    ++ (named (ascii "used=") (decimal used) ++ named (ascii "scripts=") (decimal scripts))))
+
+-- the most that is printed: the names and line feeds have 44 bytes, each number at most 20 digits, and 1,024 bytes 2,048 digits
+abbrev pub mostPrinted : ℕ
+mostPrinted = 2172
+
+-- what is printed of a run
+unfoldable pub resultLines : Result → List ℕ
+resultLines r =
+    fiveLines (r .answer .number) (r .answer .count) (answerOf r) (usedBytes (r .card .journal)) (scriptsOnTrial (r .card .journal))
+
+-- "A program runs one script on this card."
+unfoldable pub ranOn : Call → List ℕ → Result
+ranOn call script =
+    run
+    (record {
+      application = call .application;
+      domain = call .domain;
+      format = call .format;
+      script = script;
+      response = zeros 1024;
+    })
+    worked
+
+-- "Other input shapes print only `input=bad`."
+unfoldable pub badLine : List ℕ
+badLine = ascii "input=bad" ++ (lineFeed ∷ [])
+
+-- what is printed for each kind of input
+unfoldable pub linesFor : List ℕ → Input → List ℕ
+linesFor bs (Run call) = resultLines (ranOn call (decoded (part bs (call .from) (call .to - call .from))))
+linesFor bs Bad = badLine
+
+-- what the program prints for what it reads
+unfoldable pub printed : List ℕ → List ℕ
+printed bs = linesFor bs (inputOf bs)
