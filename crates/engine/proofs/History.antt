@@ -12,11 +12,8 @@ use Rattle.octets.specs.Choice.{pick}
 use Rattle.card.specs.Row.{Card}
 use Rattle.engine.specs.Calls.{Result}
 use Rattle.engine.specs.Numbers.{Arguments}
-use Rattle.engine.specs.History.{Call, running, takingBack, confirming, given, Seen, seen, gave, left, Past, anyOnTrial, struck, settled, past, afterRun, afterTakeBack, afterConfirm, afterCall, remainsFrom, remains, InBytes, AllInBytes, Demand3}
-
--- the number that a result gives
-abbrev pub number : Result → ℕ
-number r = r .answer .number
+use Rattle.engine.specs.Given.{Call, running, takingBack, confirming, given, number, Seen, seen}
+use Rattle.engine.specs.Demand3.{gave, left, Past, anyOnTrial, struck, settled, past, afterRun, afterTakeBack, afterConfirm, afterCall, remainsFrom, remains, InBytes, AllInBytes, callsOf, answersOf, Replayed}
 
 pub record Laws : Type 0 where
   pub refused : (h : Call) (c : Card) → (number (given h c) ≡ 0 → ⊥) → given h c .card ≡ c
@@ -56,37 +53,31 @@ unfolding left
 left-last c [] h = refl
 left-last c (g ∷ hs) h = left-last (given g c .card) hs h
 
-abbrev calls : List Past → List Call
-calls ps = map (λ (p : Past). p .call) ps
-
-abbrev results : List Past → List Seen
-results ps = map (λ (p : Past). p .gave) ps
-
 -- a list played with one call more
 one-more : (c : Card) (qs : List Past) (p : Past) (m c′ : Card)
-    → gave c (calls qs) ≡ results qs → left c (calls qs) ≡ m
+    → gave c (callsOf qs) ≡ answersOf qs → left c (callsOf qs) ≡ m
     → given (p .call) m .card ≡ c′ → seen (given (p .call) m) ≡ p .gave
-    → (gave c (calls (qs ++ (p ∷ []))) ≡ results (qs ++ (p ∷ []))) × (left c (calls (qs ++ (p ∷ []))) ≡ c′)
+    → (gave c (callsOf (qs ++ (p ∷ []))) ≡ answersOf (qs ++ (p ∷ []))) × (left c (callsOf (qs ++ (p ∷ []))) ≡ c′)
 one-more c qs p m c′ a l e s = (
   ap (gave c) (map-append (λ (q : Past). q .call) qs (p ∷ []))
-      ∙ gave-last c (calls qs) (p .call)
+      ∙ gave-last c (callsOf qs) (p .call)
       ∙ ap₂ (λ (xs : List Seen) (x : Seen). xs ++ (x ∷ [])) a (ap (λ (k : Card). seen (given (p .call) k)) l ∙ s)
       ∙ sym (map-append (λ (q : Past). q .gave) qs (p ∷ [])),
   ap (left c) (map-append (λ (q : Past). q .call) qs (p ∷ []))
-      ∙ left-last c (calls qs) (p .call)
+      ∙ left-last c (callsOf qs) (p .call)
       ∙ ap (λ (k : Card). given (p .call) k .card) l
       ∙ e,
 )
 
 abbrev Replay : Card → List Past → Card → Type 0
-Replay c ps c′ = (gave c (calls (reverse ps)) ≡ results (reverse ps)) × (left c (calls (reverse ps)) ≡ c′)
+Replay c ps c′ = (gave c (callsOf (reverse ps)) ≡ answersOf (reverse ps)) × (left c (callsOf (reverse ps)) ≡ c′)
 
 replay : (c : Card) (ps : List Past) (c′ : Card) → Reached c ps c′ → Replay c ps c′
 unfolding gave left
 replay c [] c′ e = (refl, e)
 replay c (p ∷ ps) c′ r =
     let before : Replay c ps (r .0) = replay c ps (r .0) (r .1) in
-    subst (λ (qs : List Past). (gave c (calls qs) ≡ results qs) × (left c (calls qs) ≡ c′)) (sym (reverse-cons p ps))
+    subst (λ (qs : List Past). (gave c (callsOf qs) ≡ answersOf qs) × (left c (callsOf qs) ≡ c′)) (sym (reverse-cons p ps))
     (one-more c (reverse ps) p (r .0) c′ (before .0) (before .1) (r .2 .card) (r .2 .shown))
 
 -- ---- one call more
@@ -222,9 +213,9 @@ module _ (laws : Laws) where
   all-more c ps m [] small r = r
   all-more c ps m (h ∷ hs) small r = all-more c (afterCall h (given h m) ps) (given h m .card) hs (small .1) (call-more c ps m h (small .0) r)
 
-  pub demand3 : (c : Card) (hs : List Call) → AllInBytes hs → Demand3 c hs
+  pub replayed : (c : Card) (hs : List Call) → AllInBytes hs → Replayed c hs
   unfolding remains
-  demand3 c hs small =
+  replayed c hs small =
       let played : Replay c (remainsFrom c [] hs) (left c hs) =
       replay c (remainsFrom c [] hs) (left c hs) (all-more c [] c hs small refl)
       in

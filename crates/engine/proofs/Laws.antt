@@ -1,7 +1,7 @@
 -- A take-back after an accepted run gives back the card from before it; and with the laws of refused calls, demand 3 for every history of scripts that are bytes. Assumes nothing.
 use Prim.Native.Nat.{ℕ, _<_}
 use mathlib.Core.Path.{_≡_, sym, ap, _∙_}
-use mathlib.Core.List.{List}
+use mathlib.Core.List.{[]}
 use native.Mathlib.Omega.{arith}
 use Rattle.octets.specs.Bytes.{byte}
 use Rattle.card.specs.Row.{Card}
@@ -17,14 +17,15 @@ use Rattle.compact.proofs.Runs as compact
 use Rattle.expanded.proofs.Runs as expanded
 use Rattle.expanded.specs.Templates.{templateOf}
 use Rattle.engine.specs.Numbers.{Arguments, formatOf, firstGiven, runRefusals}
-use Rattle.engine.specs.Calls.{Result, accepted, runScript, run}
-use Rattle.engine.specs.History.{Call, running, takingBack, given, AllInBytes, InBytes, Demand3}
-use Rattle.engine.proofs.History.{number, Laws, demand3}
+use Rattle.engine.specs.Calls.{Result, gives, numbered, accepted, runScript}
+use Rattle.engine.specs.Given.{running, takingBack, given, number}
+use Rattle.engine.specs.Demand3.{InBytes, Demand3}
+use Rattle.engine.proofs.History.{Laws, replayed}
 use Rattle.session.proofs.Good.{good-start}
 use Rattle.engine.proofs.Answers.{back-done}
 use Rattle.engine.proofs.Accepted.{is-sound, mark-room, inside, root, marked-sound, marked-trial}
 use Rattle.engine.proofs.LawsAlike.{alike}
-use Rattle.engine.proofs.LawsRefused.{refused, notBack, notConfirm, run-number, given-done, script-done}
+use Rattle.engine.proofs.LawsRefused.{refused, notBack, notConfirm, run-number, run-done}
 
 module _ (a : Arguments) (c : Card) (small : (i : ℕ) → byte (a .script) i < 256) (ok : number (given (running a) c) ≡ 0) where
   free : firstGiven (runRefusals c a) ≡ 0
@@ -47,21 +48,24 @@ module _ (a : Arguments) (c : Card) (small : (i : ℕ) → byte (a .script) i < 
   ends Compact = (_, compact.run-keeps (a .script) small c (a .application) (a .domain) _ begins)
   ends Expanded = (_, expanded.run-keeps (a .script) small c (templateOf (a .script)) (a .application) (a .domain) _ begins)
 
-  run-card : given (running a) c .card ≡ runScript (formatOf (a .format)) a (withJournal c (marked (c .journal))) .card
-  unfolding given run
-  run-card = given-done _ c (a .response) _ (script-done (formatOf (a .format)) a _) free
-
-back : (a : Arguments) (c : Card) → InBytes (running a) → number (given (running a) c) ≡ 0 → given takingBack (given (running a) c .card) .card ≡ c
+taken-back : (a : Arguments) (c : Card) → InBytes (running a) → number (given (running a) c) ≡ 0 → given takingBack (given (running a) c .card) ≡ gives (numbered 0) c []
 unfolding given
-back a c small ok =
+taken-back a c small ok =
     let d = runScript (formatOf (a .format)) a (withJournal c (marked (c .journal))) .card in
     let h = ends a c small ok (formatOf (a .format)) .1 in
-    ap (λ (k : Card). given takingBack k .card) (run-card a c small ok)
-    ∙ ap (λ (r : Result). r .card) (back-done d (h .sound) (λ z. let t = h .trial in omega arith))
-    ∙ h .back
+    ap (λ (r : Result). given takingBack (r .card)) (run-done a c ok)
+    ∙ back-done d (h .sound) (λ z. let t = h .trial in omega arith)
+    ∙ ap (λ (k : Card). gives (numbered 0) k []) (h .back)
 
-pub laws : Laws
-laws = record { refused = refused; back = back; alike = alike; notBack = notBack; notConfirm = notConfirm }
+laws : Laws
+laws =
+    record {
+      refused = λ h c z. ap (λ (r : Result). r .card) (refused h c z);
+      back = λ a c small ok. ap (λ (r : Result). r .card) (taken-back a c small ok);
+      alike = alike;
+      notBack = notBack;
+      notConfirm = notConfirm;
+    }
 
-pub theorem : (c : Card) (hs : List Call) → AllInBytes hs → Demand3 c hs
-theorem = demand3 laws
+pub demand3 : Demand3
+demand3 = record { history = replayed laws; takeBack = taken-back }

@@ -1,7 +1,7 @@
 -- A call that is refused, and not with 5, is refused alike on the card that a take-back leaves. Assumes nothing.
 use Prim.Native.Nat.{_+_, _-_, _≤_}
 use mathlib.Core.Path.{_≡_, refl, sym, ap, _∙_}
-use mathlib.Core.Bool.{Bool, true, false, not, _&&_, _||_}
+use mathlib.Core.Bool.{Bool, true, false, _&&_, _||_}
 use native.Mathlib.Omega.{arith}
 use lib.Dec.{leb, ltb, eqb}
 use lib.ListN.{length}
@@ -19,8 +19,7 @@ use Rattle.journal.proofs.Kept.{taken-sound}
 use Rattle.command.proofs.Rows.{rows-taken}
 use Rattle.engine.specs.Numbers.{Arguments, applicationFits, argumentsFit, scriptFits, leastResponse, markFits, templateFits, formatOf, firstGiven, notSound, runRefusals}
 use Rattle.engine.specs.Calls.{numbered, run}
-use Rattle.engine.specs.History.{Call, running, takingBack, confirming, given, seen}
-use Rattle.engine.proofs.History.{number}
+use Rattle.engine.specs.Given.{Call, running, takingBack, confirming, given, number, seen}
 use Rattle.engine.proofs.Answers.{confirm-done}
 use Rattle.engine.proofs.Accepted.{firstOf}
 use Rattle.engine.proofs.LawsRefused.{given-seen, script-done, run-number, back-sound, back-card}

@@ -1,4 +1,5 @@
--- The numbers of the three calls: a refused call changes nothing, 5 is for runs, and what an accepted take-back is. Assumes nothing.
+-- The numbers of the three calls, and what comes of them: a refused call gives its number alone, an accepted run is its script, 5 is for runs, and
+-- what an accepted take-back is. Assumes nothing.
 use Prim.Native.Nat.{ℕ}
 use mathlib.Core.Path.{_≡_, refl, sym, ap, _∙_}
 use mathlib.Core.Bool.{Bool, true, false, not}
@@ -10,13 +11,12 @@ use Rattle.octets.specs.Choice.{pick}
 use Rattle.card.specs.Row.{Card}
 use Rattle.journal.specs.Entries.{scriptsOnTrial}
 use Rattle.journal.specs.Sound.{soundCard}
-use Rattle.journal.specs.Changes.{takenBack}
+use Rattle.journal.specs.Changes.{withJournal, marked, takenBack}
 use Rattle.command.specs.declared.Format.{Format}
 use Rattle.command.specs.declared.Format.the-variants.{Compact, Expanded}
 use Rattle.engine.specs.Numbers.{Arguments, formatOf, firstGiven, notSound, runRefusals, takeBackRefusals, confirmRefusals}
 use Rattle.engine.specs.Calls.{Result, gives, numbered, accepted, unlessRefused, runScript, run, takeBack, confirm}
-use Rattle.engine.specs.History.{Call, running, takingBack, confirming, given, seen}
-use Rattle.engine.proofs.History.{number}
+use Rattle.engine.specs.Given.{Call, running, takingBack, confirming, given, number, lentResponse, seen}
 
 -- a call that is done where no number is given
 module _ (n : ℕ) (c : Card) (response : List ℕ) (r : Result) (done : number r ≡ 0) where
@@ -32,14 +32,14 @@ module _ (n : ℕ) (c : Card) (response : List ℕ) (r : Result) (done : number 
   unfolding unlessRefused
   given-nothing z = rw (ne-eqb n 0 z, unlessRefused)
 
-  given-card : (n ≡ 0 → ⊥) → unlessRefused n c response r .card ≡ c
-  given-card z = ap (λ (r : Result). r .card) (given-nothing z)
+  given-alone : (number (unlessRefused n c response r) ≡ 0 → ⊥) → unlessRefused n c response r ≡ gives (numbered (number (unlessRefused n c response r))) c response
+  given-alone z = given-nothing (λ e. z (given-number ∙ e)) ∙ ap (λ (k : ℕ). gives (numbered k) c response) (sym given-number)
 
   pub given-seen : (n ≡ 0 → ⊥) → seen (unlessRefused n c response r) ≡ record { answer = numbered n; response = response }
   unfolding seen
   given-seen z = λ i. seen (given-nothing z i)
 
-  pub given-done : n ≡ 0 → unlessRefused n c response r .card ≡ r .card
+  given-done : n ≡ 0 → unlessRefused n c response r ≡ r
   unfolding unlessRefused
   given-done z = rw (eq-eqb n 0 z, unlessRefused)
 
@@ -61,12 +61,17 @@ pub confirm-number : (c : Card) → number (confirm c) ≡ firstGiven (confirmRe
 unfolding confirm
 confirm-number c = given-number _ c [] _ refl
 
--- a refused call changes nothing
-pub refused : (h : Call) (c : Card) → (number (given h c) ≡ 0 → ⊥) → given h c .card ≡ c
-unfolding given run takeBack confirm
-refused (running a) c z = given-card _ c (a .response) _ (script-done (formatOf (a .format)) a _) (λ e. z (run-number a c ∙ e))
-refused takingBack c z = given-card _ c [] _ refl (λ e. z (back-number c ∙ e))
-refused confirming c z = given-card _ c [] _ refl (λ e. z (confirm-number c ∙ e))
+-- an accepted run is its script, on the card with its mark
+pub run-done : (a : Arguments) (c : Card) → number (given (running a) c) ≡ 0 → given (running a) c ≡ runScript (formatOf (a .format)) a (withJournal c (marked (c .journal)))
+unfolding given run
+run-done a c ok = given-done _ c (a .response) _ (script-done (formatOf (a .format)) a _) (sym (run-number a c) ∙ ok)
+
+-- a refused call gives its number and nothing else
+pub refused : (h : Call) (c : Card) → (number (given h c) ≡ 0 → ⊥) → given h c ≡ gives (numbered (number (given h c))) c (lentResponse h)
+unfolding given run takeBack confirm lentResponse
+refused (running a) c z = given-alone _ c (a .response) _ (script-done (formatOf (a .format)) a _) z
+refused takingBack c z = given-alone _ c [] _ refl z
+refused confirming c z = given-alone _ c [] _ refl z
 
 -- 5 is for runs
 not-five : (a b : Bool) (n : ℕ) → (n ≡ 5 → ⊥) → pick a 1 (pick b n 0) ≡ 5 → ⊥
@@ -100,4 +105,4 @@ module _ (c : Card) (ok : number (given takingBack c) ≡ 0) where
 
   pub back-card : given takingBack c .card ≡ takenBack c
   unfolding given takeBack
-  back-card = given-done _ c [] _ refl none
+  back-card = ap (λ (r : Result). r .card) (given-done _ c [] _ refl none)

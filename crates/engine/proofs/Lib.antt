@@ -7,3 +7,10 @@ pub mod Ended
 pub mod LawsRefused
 pub mod LawsAlike
 pub mod Laws
+pub mod Demand1
+pub mod Commands
+pub mod AllRead
+pub mod Fresh
+pub mod Demand2
+pub mod Determined
+pub mod Demands

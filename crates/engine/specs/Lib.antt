@@ -1,5 +1,9 @@
 pub mod Numbers
 pub mod Calls
+pub mod Given
+pub mod Commands
 pub mod Hex
 pub mod Worked
-pub mod History
+pub mod Demand1
+pub mod Demand2
+pub mod Demand3

@@ -9,28 +9,9 @@ use lib.Dec.{eqb}
 use Rattle.octets.specs.Choice.{pick}
 use Rattle.octets.specs.Bytes.{byte}
 use Rattle.card.specs.Row.{Card}
-use Rattle.engine.specs.declared.Answer.{Answer}
 use Rattle.engine.specs.Numbers.{Arguments}
-use Rattle.engine.specs.Calls.{Result, run, takeBack, confirm}
-
--- a call: a run with all its arguments, its response memory among them, a take-back, or a confirmation
-pub data Call : Type 0 where
-  running : Arguments → Call
-  takingBack confirming : Call
-
--- what a call gives on a card
-unfoldable pub given : Call → Card → Result
-given (running a) c = run a c
-given takingBack c = takeBack c
-given confirming c = confirm c
-
--- what a caller gets to see of a call: its answer and the response memory
-pub record Seen : Type 0 where
-  pub answer : Answer
-  pub response : List ℕ
-
-unfoldable pub seen : Result → Seen
-seen r = record { answer = r .answer; response = r .response }
+use Rattle.engine.specs.Calls.{Result, gives, numbered}
+use Rattle.engine.specs.Given.{Call, running, takingBack, confirming, given, number, Seen, seen}
 
 -- what the calls of a history give, one after the other, from a card on; and the card at the end
 unfoldable pub gave : Card → List Call → List Seen
@@ -98,7 +79,21 @@ abbrev pub AllInBytes : List Call → Type 0
 AllInBytes [] = Unit
 AllInBytes (h ∷ hs) = InBytes h × AllInBytes hs
 
+-- the calls of a list, and what they gave
+abbrev pub callsOf : List Past → List Call
+callsOf ps = map (λ (p : Past). p .call) ps
+
+abbrev pub answersOf : List Past → List Seen
+answersOf ps = map (λ (p : Past). p .gave) ps
+
 -- the remaining calls alone, from the same start, give the same answers, and leave the same card
-pub record Demand3 (c : Card) (hs : List Call) : Type 0 where
-  pub answers : gave c (map (λ (p : Past). p .call) (remains c hs)) ≡ map (λ (p : Past). p .gave) (remains c hs)
-  pub card : left c (map (λ (p : Past). p .call) (remains c hs)) ≡ left c hs
+pub record Replayed (c : Card) (hs : List Call) : Type 0 where
+  pub answers : gave c (callsOf (remains c hs)) ≡ answersOf (remains c hs)
+  pub card : left c (callsOf (remains c hs)) ≡ left c hs
+
+pub record Demand3 : Type 0 where
+  pub history : (c : Card) (hs : List Call) → AllInBytes hs → Replayed c hs
+  -- the plain case: a take-back after an accepted run has number 0, and gives back table, files and journal, byte by byte
+  pub takeBack :
+      (a : Arguments) (c : Card) → InBytes (running a) → number (given (running a) c) ≡ 0
+      → given takingBack (given (running a) c .card) ≡ gives (numbered 0) c []
