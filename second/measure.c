@@ -38,9 +38,9 @@ struct row {
     uint8_t domain;
     enum style style;
     size_t script_length;
-    uint8_t ins;              /* SELECT alone, or another command, after its file's SELECT, to the end */
+    uint8_t ins;              /* SELECT once, or after its file's SELECT this to the end */
     size_t lc;
-    uint8_t fill, last;       /* the bytes of its data */
+    uint8_t fill, last;       /* its data: all bytes but the last, and the last */
 };
 
 #define CALL "call"
@@ -48,29 +48,52 @@ struct row {
 #define LENGTH "UPDATE of 1 byte on the worked card, by script length"
 
 static const struct row rows[] = {
-    {CALL, "run, refused with 2, journal empty", RUN, 64, MIXED, 0, 0, 1, 0x01, COMPACT, 1024, UPDATE, 1, 0x5A, 0x5A},
-    {CALL, "run, refused with 5, journal full", RUN, 64, MIXED, 2044, 15, 1, 0, COMPACT, 1024, UPDATE, 1, 0x5A, 0x5A},
-    {CALL, "one command on the worked card, compact", RUN, WORKED, ZEROS, 0, 0, 0, 0, COMPACT, 7, SELECT, 2, 0, 0},
-    {CALL, "one command on the worked card, expanded", RUN, WORKED, ZEROS, 0, 0, 0, 0, AA, 11, SELECT, 2, 0, 0},
-    {CALL, "UPDATE of 1 byte", RUN, 64, MIXED, 523, 15, 1, 0, COMPACT, 1024, UPDATE, 1, 0x5A, 0x5A},
-    {CALL, "UPDATE of 1 byte, expanded (AE)", RUN, 64, MIXED, 908, 15, 1, 0, AE, 1024, UPDATE, 1, 0x5A, 0x5A},
-    {CALL, "UPDATE of 1 byte until 6581", RUN, 64, MIXED, 1500, 15, 1, 0, COMPACT, 1024, UPDATE, 1, 0x5A, 0x5A},
-    {CALL, "UPDATE of 247 bytes", RUN, 64, MIXED, 1015, 15, 1, 0, COMPACT, 1024, UPDATE, 247, 0x5A, 0x5A},
-    {CALL, "SEARCH for 58 bytes, not found", RUN, 64, MIXED, 2036, 15, 1, 0, COMPACT, 1024, SEARCH, 58, 0x25, 0x80},
-    {CALL, "SEARCH for 121 bytes, each place but for the last byte", RUN, 64, ZEROS, 2036, 15, 1, 0, COMPACT, 1024, SEARCH, 121, 0x00, 0x01},
-    {CALL, "SEARCH for 1 byte, found first in each record", RUN, 64, ZEROS, 2036, 15, 1, 0, COMPACT, 1024, SEARCH, 1, 0x00, 0x00},
-    {CALL, "INCREASE by 121 bytes", RUN, 64, MIXED, 884, 15, 1, 0, COMPACT, 1024, INCREASE, 121, 0x01, 0x01},
-    {CALL, "take-back of entries of 1 byte, journal full", TAKE_BACK, 64, MIXED, 2044, 1, 1, 0, COMPACT, 0, 0, 0, 0, 0},
-    {CALL, "take-back of entries of 246 bytes, journal full", TAKE_BACK, 64, MIXED, 2044, 1, 246, 0, COMPACT, 0, 0, 0, 0, 0},
-    {CALL, "confirmation, journal full", CONFIRM, 64, MIXED, 2044, 16, 1, 0, COMPACT, 0, 0, 0, 0, 0},
-    {ENTRIES, "1", RUN, 1, MIXED, 0, 0, 0, 0, COMPACT, 7, SELECT, 2, 0, 0},
-    {ENTRIES, "8", RUN, 8, MIXED, 0, 0, 0, 0, COMPACT, 7, SELECT, 2, 0, 0},
-    {ENTRIES, "16", RUN, 16, MIXED, 0, 0, 0, 0, COMPACT, 7, SELECT, 2, 0, 0},
-    {ENTRIES, "32", RUN, 32, MIXED, 0, 0, 0, 0, COMPACT, 7, SELECT, 2, 0, 0},
-    {ENTRIES, "64", RUN, 64, MIXED, 0, 0, 0, 0, COMPACT, 7, SELECT, 2, 0, 0},
-    {LENGTH, "64", RUN, WORKED, ZEROS, 0, 0, 0, 0, COMPACT, 64, UPDATE, 1, 0x5A, 0x5A},
-    {LENGTH, "256", RUN, WORKED, ZEROS, 0, 0, 0, 0, COMPACT, 256, UPDATE, 1, 0x5A, 0x5A},
-    {LENGTH, "1024", RUN, WORKED, ZEROS, 0, 0, 0, 0, COMPACT, 1024, UPDATE, 1, 0x5A, 0x5A},
+    {CALL, "run, refused with 2, journal empty",
+     RUN, 64, MIXED, 0, 0, 1, 0x01, COMPACT, 1024, UPDATE, 1, 0x5A, 0x5A},
+    {CALL, "run, refused with 5, journal full",
+     RUN, 64, MIXED, 2044, 15, 1, 0, COMPACT, 1024, UPDATE, 1, 0x5A, 0x5A},
+    {CALL, "one command on the worked card, compact",
+     RUN, WORKED, ZEROS, 0, 0, 0, 0, COMPACT, 7, SELECT, 2, 0, 0},
+    {CALL, "one command on the worked card, expanded",
+     RUN, WORKED, ZEROS, 0, 0, 0, 0, AA, 11, SELECT, 2, 0, 0},
+    {CALL, "UPDATE of 1 byte",
+     RUN, 64, MIXED, 523, 15, 1, 0, COMPACT, 1024, UPDATE, 1, 0x5A, 0x5A},
+    {CALL, "UPDATE of 1 byte, expanded (AE)",
+     RUN, 64, MIXED, 908, 15, 1, 0, AE, 1024, UPDATE, 1, 0x5A, 0x5A},
+    {CALL, "UPDATE of 1 byte until 6581",
+     RUN, 64, MIXED, 1500, 15, 1, 0, COMPACT, 1024, UPDATE, 1, 0x5A, 0x5A},
+    {CALL, "UPDATE of 247 bytes",
+     RUN, 64, MIXED, 1015, 15, 1, 0, COMPACT, 1024, UPDATE, 247, 0x5A, 0x5A},
+    {CALL, "SEARCH for 58 bytes, not found",
+     RUN, 64, MIXED, 2036, 15, 1, 0, COMPACT, 1024, SEARCH, 58, 0x25, 0x80},
+    {CALL, "SEARCH for 121 bytes, each place but for the last byte",
+     RUN, 64, ZEROS, 2036, 15, 1, 0, COMPACT, 1024, SEARCH, 121, 0x00, 0x01},
+    {CALL, "SEARCH for 1 byte, found first in each record",
+     RUN, 64, ZEROS, 2036, 15, 1, 0, COMPACT, 1024, SEARCH, 1, 0x00, 0x00},
+    {CALL, "INCREASE by 121 bytes",
+     RUN, 64, MIXED, 884, 15, 1, 0, COMPACT, 1024, INCREASE, 121, 0x01, 0x01},
+    {CALL, "take-back of entries of 1 byte, journal full",
+     TAKE_BACK, 64, MIXED, 2044, 1, 1, 0, COMPACT, 0, 0, 0, 0, 0},
+    {CALL, "take-back of entries of 246 bytes, journal full",
+     TAKE_BACK, 64, MIXED, 2044, 1, 246, 0, COMPACT, 0, 0, 0, 0, 0},
+    {CALL, "confirmation, journal full",
+     CONFIRM, 64, MIXED, 2044, 16, 1, 0, COMPACT, 0, 0, 0, 0, 0},
+    {ENTRIES, "1",
+     RUN, 1, MIXED, 0, 0, 0, 0, COMPACT, 7, SELECT, 2, 0, 0},
+    {ENTRIES, "8",
+     RUN, 8, MIXED, 0, 0, 0, 0, COMPACT, 7, SELECT, 2, 0, 0},
+    {ENTRIES, "16",
+     RUN, 16, MIXED, 0, 0, 0, 0, COMPACT, 7, SELECT, 2, 0, 0},
+    {ENTRIES, "32",
+     RUN, 32, MIXED, 0, 0, 0, 0, COMPACT, 7, SELECT, 2, 0, 0},
+    {ENTRIES, "64",
+     RUN, 64, MIXED, 0, 0, 0, 0, COMPACT, 7, SELECT, 2, 0, 0},
+    {LENGTH, "64",
+     RUN, WORKED, ZEROS, 0, 0, 0, 0, COMPACT, 64, UPDATE, 1, 0x5A, 0x5A},
+    {LENGTH, "256",
+     RUN, WORKED, ZEROS, 0, 0, 0, 0, COMPACT, 256, UPDATE, 1, 0x5A, 0x5A},
+    {LENGTH, "1024",
+     RUN, WORKED, ZEROS, 0, 0, 0, 0, COMPACT, 1024, UPDATE, 1, 0x5A, 0x5A},
 };
 
 enum { ROWS = sizeof rows / sizeof rows[0], SIDES = sizeof sides / sizeof sides[0] };
@@ -80,8 +103,8 @@ enum { ROWS = sizeof rows / sizeof rows[0], SIDES = sizeof sides / sizeof sides[
 enum { DIRECTORY_STEP = 5, DIRECTORIES = 12, LARGE_FILE = 63, SMALL_FILES = 51, SMALL_LENGTH = 10 };
 
 /* Sets an entry that is activated and has no NEVER bit. */
-static void put_entry(struct card *card, size_t number, unsigned identifier, size_t parent, uint8_t kind,
-                      size_t start, size_t length, size_t record_length)
+static void put_entry(struct card *card, size_t number, unsigned identifier, size_t parent,
+                      uint8_t kind, size_t start, size_t length, size_t record_length)
 {
     uint8_t *entry = entry_at(card, number);
 
@@ -113,10 +136,14 @@ static void make_worked_card(struct card *card)
 static void put_directory(struct card *card, size_t number)
 {
     static const uint8_t parents[DIRECTORIES] = {0, 0, 5, 0, 10, 15, 0, 20, 25, 0, 45, 0};
-    const bool adf = number % 15 == 0;
 
-    put_entry(card, number, number == 0 ? 0x3F00 : adf ? 0x7FFF : 0x7F00 + (unsigned)number,
-              parents[number / DIRECTORY_STEP], number == 0 ? MF : adf ? ADF : DF, 0, 0, 0);
+    if (number == 0)
+        put_entry(card, number, 0x3F00, 0, MF, 0, 0, 0);
+    else if (number % 15 == 0)
+        put_entry(card, number, 0x7FFF, 0, ADF, 0, 0, 0);
+    else
+        put_entry(card, number, 0x7F00 + (unsigned)number, parents[number / DIRECTORY_STEP], DF,
+                  0, 0, 0);
 }
 
 /* A file of ten bytes in some directory and at some place, with some state and NEVER bits. */
@@ -198,7 +225,8 @@ static void make_journal_up_to(struct card *card, size_t used, size_t trials, si
 enum { HEADER = 5, TLV_HEAD = 2, TEMPLATE_HEAD = 2, TEMPLATE_END = 2 };
 
 /* Appends a command, in a C-APDU's TLV of at most 127 bytes if the script is expanded. */
-static void add_command(struct call *call, uint8_t ins, uint8_t p1, uint8_t p2, const uint8_t *data, size_t lc)
+static void add_command(struct call *call, uint8_t ins, uint8_t p1, uint8_t p2,
+                        const uint8_t *data, size_t lc)
 {
     struct script *script = &call->script;
     const uint8_t tlv[TLV_HEAD] = {0x22, (uint8_t)(HEADER + lc)};
@@ -213,7 +241,7 @@ static void add_command(struct call *call, uint8_t ins, uint8_t p1, uint8_t p2, 
     script->length += HEADER + lc;
 }
 
-/* Selects the file and has the row's command as often as it fits; the last one takes what is left. */
+/* Selects the file, then has the row's command as often as it fits; the last takes what is left. */
 static void add_commands(struct call *call, const struct row *row, size_t end)
 {
     static const uint8_t worked_path[] = {0x7F, 0x10, 0x6F, 0x46};
@@ -235,7 +263,8 @@ static void add_commands(struct call *call, const struct row *row, size_t end)
     }
 }
 
-/* Makes the row's script: SELECT of the DF on the worked card or of the MF on others, or its commands. */
+/* Makes the row's script: one SELECT, of the DF on the worked card or of the MF on another, or the
+ * row's commands. */
 static void make_row_script(struct call *call, const struct row *row)
 {
     static const uint8_t mf[] = {0x3F, 0x00}, df[] = {0x7F, 0x10};
@@ -316,7 +345,7 @@ static void call_on_painted_stack(void)
     make_call(painted_side, painted_lent);
 }
 
-/* Makes the call on a painted stack; answers how deep the paint is gone, from its caller's frame. */
+/* Makes the call on a painted stack; answers how far the paint is gone, from its caller's frame. */
 static size_t deepest_stack(const struct side *side, struct lent *lent)
 {
     ucontext_t here, there;
@@ -340,7 +369,7 @@ static size_t deepest_stack(const struct side *side, struct lent *lent)
 
 static struct lent lents[2];
 
-/* Makes the row's call by both sides and prints its line; answers whether all that came out is equal. */
+/* Makes the row's call by both sides and prints its line; answers whether all came out equal. */
 static bool compare_row(const struct row *row)
 {
     memset(lents, 0, sizeof lents);
@@ -351,8 +380,8 @@ static bool compare_row(const struct row *row)
     const size_t second = deepest_stack(&sides[1], &lents[1]);
     const uint64_t result = lents[0].answer.result;
 
-    printf("%s|%s|%u|%u|%u|%u|%zu|%zu\n", row->group, row->name, RFM_NUMBER(result), RFM_COUNT(result),
-           before, number_at(lents[0].card.journal.at), library, second);
+    printf("%s|%s|%u|%u|%u|%u|%zu|%zu\n", row->group, row->name, RFM_NUMBER(result),
+           RFM_COUNT(result), before, number_at(lents[0].card.journal.at), library, second);
     return memcmp(&lents[0], &lents[1], sizeof lents[0]) == 0;
 }
 

@@ -1,0 +1,83 @@
+-- Each of the three contracts allows one result: whatever the arguments and the first contents of the lent memories, two results
+-- that it allows are the same number, and leave the same bytes in each lent memory. Assumes nothing.
+use Prim.Native.Nat.{ℕ}
+use mathlib.Core.Path.{_≡_, sym, ap, _∙_}
+use mathlib.Core.List.{[]}
+use contract.Lifetimes.{Lfts}
+use denote.Ref.{now}
+use denote.Triple.Clauses.{AtExit}
+use borrow.Fn.Kinds.{Dens, endedOf}
+use Rattle.card.specs.Row.{Card, lent}
+use Rattle.engine.specs.Numbers.{Arguments}
+use Rattle.engine.specs.Calls as calls
+use Rattle.rfm.specs.Packed.{Crossed, crosses, across}
+use Rattle.rfm.proofs.rfm_run.Kinds as run
+use Rattle.rfm.proofs.rfm_run.Reads as run-contract
+use Rattle.rfm.proofs.rfm_take_back.Kinds as take-back
+use Rattle.rfm.proofs.rfm_take_back.Reads as take-back-contract
+use Rattle.rfm.proofs.rfm_confirm.Kinds as confirm
+use Rattle.rfm.proofs.rfm_confirm.Reads as confirm-contract
+
+-- two results are the same: the numbers, and every byte of each lent memory
+pub record Same (one other : Crossed) : Type 0 where
+  pub sum : one .sum ≡ other .sum
+  pub table : one .card .table ≡ other .card .table
+  pub files : one .card .files ≡ other .card .files
+  pub journal : one .card .journal ≡ other .card .journal
+  pub response : one .response ≡ other .response
+
+same : (one other given : Crossed) → one ≡ given → other ≡ given → Same one other
+same one other given e f =
+    let k : one ≡ other = e ∙ sym f in
+    record {
+      sum = ap (λ (r : Crossed). r .sum) k;
+      table = ap (λ (r : Crossed). r .card .table) k;
+      files = ap (λ (r : Crossed). r .card .files) k;
+      journal = ap (λ (r : Crossed). r .card .journal) k;
+      response = ap (λ (r : Crossed). r .response) k;
+    }
+
+-- `rfm_run`, called with table, files, journal, application, domain, format, script and response memory
+module _ (κs : Lfts 5) (args : Dens κs run.ps) where
+  abbrev arguments : Arguments
+  arguments =
+      record {
+        application = args .1 .1 .1 .0;
+        domain = args .1 .1 .1 .1 .0;
+        format = args .1 .1 .1 .1 .1 .0;
+        script = now (args .1 .1 .1 .1 .1 .1 .0);
+        response = now (args .1 .1 .1 .1 .1 .1 .1 .0);
+      }
+
+  abbrev card : Card
+  card = lent (now (args .0)) (now (args .1 .0)) (now (args .1 .1 .0))
+
+  abbrev result : ℕ → AtExit (endedOf 5 run.ps run.r) κs → Crossed
+  result n e = crosses n (lent (now (e .0)) (now (e .1 .0)) (now (e .1 .1 .0))) (now (e .1 .1 .1 .1 .1 .1 .1 .0))
+
+  -- what its contract tells a caller of a number and the memories at exit
+  run-says : (n : ℕ) (e : AtExit (endedOf 5 run.ps run.r) κs) → run-contract.Learnt κs args n e → result n e ≡ across (calls.run arguments card)
+  run-says n e h = h
+
+  pub run-determined : (n k : ℕ) (e f : AtExit (endedOf 5 run.ps run.r) κs) → run-contract.Learnt κs args n e → run-contract.Learnt κs args k f → Same (result n e) (result k f)
+  run-determined n k e f h g = same _ _ _ (run-says n e h) (run-says k f g)
+
+-- `rfm_take_back` and `rfm_confirm`, called with table, files and journal
+module _ (κs : Lfts 3) (args : Dens κs take-back.ps) where
+  abbrev lent-card : Card
+  lent-card = lent (now (args .0)) (now (args .1 .0)) (now (args .1 .1 .0))
+
+  abbrev lent-result : ℕ → AtExit (endedOf 3 take-back.ps take-back.r) κs → Crossed
+  lent-result n e = crosses n (lent (now (e .0)) (now (e .1 .0)) (now (e .1 .1 .0))) []
+
+  take-back-says : (n : ℕ) (e : AtExit (endedOf 3 take-back.ps take-back.r) κs) → take-back-contract.Learnt κs args n e → lent-result n e ≡ across (calls.takeBack lent-card)
+  take-back-says n e h = h
+
+  confirm-says : (n : ℕ) (e : AtExit (endedOf 3 confirm.ps confirm.r) κs) → confirm-contract.Learnt κs args n e → lent-result n e ≡ across (calls.confirm lent-card)
+  confirm-says n e h = h
+
+  pub take-back-determined : (n k : ℕ) (e f : AtExit (endedOf 3 take-back.ps take-back.r) κs) → take-back-contract.Learnt κs args n e → take-back-contract.Learnt κs args k f → Same (lent-result n e) (lent-result k f)
+  take-back-determined n k e f h g = same _ _ _ (take-back-says n e h) (take-back-says k f g)
+
+  pub confirm-determined : (n k : ℕ) (e f : AtExit (endedOf 3 confirm.ps confirm.r) κs) → confirm-contract.Learnt κs args n e → confirm-contract.Learnt κs args k f → Same (lent-result n e) (lent-result k f)
+  confirm-determined n k e f h g = same _ _ _ (confirm-says n e h) (confirm-says k f g)
