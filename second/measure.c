@@ -330,36 +330,45 @@ static void make_call(const struct side *side, struct lent *lent)
     lent->answer.result = result;
 }
 
-/* ---- The deepest stack ---- */
+/* ---- The stack of a call ---- */
 
-enum { STACK_SIZE = 1 << 16, PAINT = 0xC7 };
+enum { STACK_SIZE = 1 << 16, PAGE = 4096, PAINT = 0xC7 };
 
-static uint8_t stack[STACK_SIZE];
+static _Alignas(PAGE) uint8_t stack[STACK_SIZE];
 static uint8_t *stack_top; /* where the caller's own frame begins */
-static const struct side *painted_side;
-static struct lent *painted_lent;
+static const struct side *calling; /* or NULL */
+static struct lent *lending;
 
-static void call_on_painted_stack(void)
+static void call_on_own_stack(void)
 {
     stack_top = __builtin_frame_address(0);
-    make_call(painted_side, painted_lent);
+    if (calling != NULL)
+        make_call(calling, lending);
+}
+
+/* Makes the call, or none, on a stack that always lies alike, as the instructions of a copy depend
+ * on where it goes. */
+static void on_own_stack(const struct side *side, struct lent *lent)
+{
+    ucontext_t here, there;
+
+    calling = side;
+    lending = lent;
+    getcontext(&there);
+    there.uc_stack.ss_sp = stack;
+    there.uc_stack.ss_size = sizeof stack;
+    there.uc_link = &here;
+    makecontext(&there, call_on_own_stack, 0);
+    swapcontext(&here, &there);
 }
 
 /* Makes the call on a painted stack; answers how far the paint is gone, from its caller's frame. */
 static size_t deepest_stack(const struct side *side, struct lent *lent)
 {
-    ucontext_t here, there;
     size_t untouched = 0;
 
     memset(stack, PAINT, sizeof stack);
-    painted_side = side;
-    painted_lent = lent;
-    getcontext(&there);
-    there.uc_stack.ss_sp = stack;
-    there.uc_stack.ss_size = sizeof stack;
-    there.uc_link = &here;
-    makecontext(&there, call_on_painted_stack, 0);
-    swapcontext(&here, &there);
+    on_own_stack(side, lent);
     while (stack[untouched] == PAINT)
         untouched++;
     return (size_t)(stack_top - stack) - untouched;
@@ -367,7 +376,7 @@ static size_t deepest_stack(const struct side *side, struct lent *lent)
 
 /* ---- The two uses ---- */
 
-static struct lent lents[2];
+static _Alignas(PAGE) struct lent lents[2];
 
 /* Makes the row's call by both sides and prints its line; answers whether all came out equal. */
 static bool compare_row(const struct row *row)
@@ -390,8 +399,7 @@ int main(int arguments, char **argument)
     if (arguments == 3) {
         const int side = atoi(argument[2]);
         lend(&rows[atoi(argument[1])], &lents[0]);
-        if (side < SIDES)
-            make_call(&sides[side], &lents[0]);
+        on_own_stack(side < SIDES ? &sides[side] : NULL, &lents[0]);
         return 0;
     }
     for (size_t i = 0; i < ROWS; i++)
