@@ -51,15 +51,23 @@ module _ {t : Bool} (m d : List ℕ) (j i : ℕ) (left : t ≡ startsWith (drop 
   unfolding startsWith
   starts-next h g = left ∙ rw (add-one j, add-one i, drop-cons m j 0 h, drop-cons d i 0 g)
 
-  pub starts-goes-on : j < length m → i < length d → byte m j ≡ byte d i → t ≡ startsWith (drop (j + 1) m) (drop (i + 1) d)
-  starts-goes-on h g e = rw (eq-eqb (byte m j) (byte d i) e) at (starts-next h g)
-
   pub starts-fails : j < length m → i < length d → (byte m j ≡ byte d i → ⊥) → false ≡ t
   starts-fails h g e = sym (rw (ne-eqb (byte m j) (byte d i) e) at (starts-next h g))
 
-  pub starts-ends : length d ≤ i → true ≡ t
+pub starts-empty : (m d : List ℕ) → length d ≡ 0 → true ≡ startsWith m d
+unfolding startsWith
+starts-empty m [] h = refl
+starts-empty m (y ∷ d) h = absurd (omega arith)
+
+-- the same gathered
+module _ {t : Bool} (found : Bool) (m d : List ℕ) (j i : ℕ) (left : t ≡ (found && startsWith (drop j m) (drop i d))) where
+  pub starts-more : j < length m → i < length d → t ≡ ((found && eqb (byte m j) (byte d i)) && startsWith (drop (j + 1) m) (drop (i + 1) d))
+  starts-more h g =
+      left ∙ ap (λ (b : Bool). found && b) (starts-next m d j i refl h g) ∙ sym (and-assoc found (eqb (byte m j) (byte d i)) (startsWith (drop (j + 1) m) (drop (i + 1) d)))
+
+  pub starts-ends : length d ≤ i → found ≡ t
   unfolding startsWith
-  starts-ends h = sym (rw (drop-of-length-le d h) at left)
+  starts-ends h = sym (left ∙ (rw (drop-of-length-le d h) (and-true found)))
 
 -- a run that begins with another has its bytes first, and every run begins with a front of it
 pub starts-true : (m d : List ℕ) → startsWith m d ≡ true → take (length d) m ≡ d

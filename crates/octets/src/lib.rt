@@ -79,19 +79,32 @@ pub fn all_zero(m: &[u8]) -> bool
     zero
 }
 
-// Whether the bytes from a place on begin with a run of bytes.
+// Whether each byte of a run stands from a place on.
+fn same_at(m: &[u8], at: usize, d: &[u8]) -> bool
+    requires { ⌜ at + length (now d) ≤ length (now m) ⌝ }
+    ensures { λ r. ⌜ r ≡ startsWith (drop at (now (m .entry))) (now (d .entry)) ⌝ }
+{
+    let mut same = true;
+    let mut i: usize = 0;
+    while i < d.len() {
+        same = same & (m[at + i] == d[i]);
+        i += 1;
+    }
+    same
+}
+
+// Whether the bytes from a place on begin with a run of bytes: most often the first byte tells.
 pub fn starts_at(m: &[u8], at: usize, d: &[u8]) -> bool
     requires { ⌜ at + length (now d) ≤ length (now m) ⌝ }
     ensures { λ r. ⌜ r ≡ startsWith (drop at (now (m .entry))) (now (d .entry)) ⌝ }
 {
-    let mut i: usize = 0;
-    while i < d.len() {
-        if m[at + i] != d[i] {
-            return false;
-        }
-        i += 1;
+    if d.len() == 0 {
+        return true;
     }
-    true
+    if m[at] != d[0] {
+        return false;
+    }
+    same_at(m, at, d)
 }
 
 // Whether a run of bytes stands somewhere in the memory, in one piece; it is compared where it lies.

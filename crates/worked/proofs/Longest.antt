@@ -12,8 +12,10 @@ use lib.Seq.{take-all}
 use borrow.Author.Tests.{ltb-false}
 use Rattle.octets.specs.Choice.{pick}
 use Rattle.octets.specs.Bytes.{part, startsWith}
-use Rattle.worked.specs.declared.digits.Number.{Number}
-use Rattle.worked.specs.declared.digits.Number.the-variants as number
+use Rattle.lines.specs.declared.digits.Number.{Number}
+use Rattle.lines.specs.declared.digits.Number.the-variants as number
+use Rattle.lines.specs.Digits.{ascii, numberOf, isScript}
+use Rattle.lines.proofs.Signs.{less-or-not}
 use Rattle.worked.specs.declared.input.Line.{Line}
 use Rattle.worked.specs.declared.input.Line.the-variants as line
 use Rattle.worked.specs.declared.input.Field.{Field}
@@ -21,10 +23,8 @@ use Rattle.worked.specs.declared.input.Field.the-variants as field
 use Rattle.worked.specs.declared.input.Call.{Call}
 use Rattle.worked.specs.declared.input.Input.{Input}
 use Rattle.worked.specs.declared.input.Input.the-variants.{Run, Bad}
-use Rattle.worked.specs.Digits.{ascii, numberOf, isScript}
 use Rattle.worked.specs.Input.{lineEnd, lineAt, before, numberIn, numberAt, scriptIn, scriptAt, then, runOf, inputOf}
 use Rattle.worked.specs.Printed.{printed, badLine}
-use Rattle.worked.proofs.Signs.{less-or-not}
 use Rattle.worked.proofs.Ran.{printed-bad, script-short}
 
 -- a choice that is not the one value is the other

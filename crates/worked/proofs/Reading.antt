@@ -14,13 +14,14 @@ use Rattle.octets.specs.Bytes.{byte, part, startsWith}
 use Rattle.octets.proofs.Picks.{refuted, pick-true, pick-false, lt-yes, lt-no}
 use Rattle.octets.proofs.Same.{starts-true}
 use Rattle.octets.proofs.Writes.{part-length}
-use Rattle.worked.specs.declared.digits.Number.{Number}
+use Rattle.lines.specs.declared.digits.Number.{Number}
+use Rattle.lines.specs.Digits.{ascii, numberOf, isScript}
+use Rattle.lines.specs.Named.{lineFeed}
 use Rattle.worked.specs.declared.input.Line.{Line}
 use Rattle.worked.specs.declared.input.Line.the-variants as line
 use Rattle.worked.specs.declared.input.Field.{Field}
 use Rattle.worked.specs.declared.input.Field.the-variants as field
-use Rattle.worked.specs.Digits.{ascii, numberOf, isScript}
-use Rattle.worked.specs.Input.{lineFeed, lineOf, lineEnd, lineAt, LineFits, before, numberIn, numberAt, FieldFits, scriptIn, scriptAt}
+use Rattle.worked.specs.Input.{lineOf, lineEnd, lineAt, LineFits, before, numberIn, numberAt, FieldFits, scriptIn, scriptAt}
 
 -- where a line ends, byte by byte
 module _ (bs : List ℕ) (at : ℕ) where

@@ -8,19 +8,16 @@ use lib.ListN.{length, drop}
 use lib.Dec.{ltb, eqb}
 use Rattle.octets.specs.Choice.{pick}
 use Rattle.octets.specs.Bytes.{part, startsWith}
-use Rattle.worked.specs.declared.digits.Number.{Number}
-use Rattle.worked.specs.declared.digits.Number.the-variants as number
+use Rattle.lines.specs.declared.digits.Number.{Number}
+use Rattle.lines.specs.declared.digits.Number.the-variants as number
+use Rattle.lines.specs.Digits.{ascii, numberOf, isScript}
+use Rattle.lines.specs.Named.{lineFeed}
 use Rattle.worked.specs.declared.input.Line.{Line}
 use Rattle.worked.specs.declared.input.Line.the-variants as line
 use Rattle.worked.specs.declared.input.Field.{Field}
 use Rattle.worked.specs.declared.input.Field.the-variants as field
 use Rattle.worked.specs.declared.input.Input.{Input}
 use Rattle.worked.specs.declared.input.Input.the-variants as input
-use Rattle.worked.specs.Digits.{ascii, numberOf, isScript}
-
--- a line feed
-abbrev pub lineFeed : ℕ
-lineFeed = 0x0A
 
 -- the bytes in front of the first line feed, and all where there is none: the last line feed may be missing
 unfoldable pub lineOf : List ℕ → List ℕ

@@ -6,23 +6,20 @@ use Rattle.octets.specs.Bytes.{part, zeros}
 use Rattle.journal.specs.Entries.{usedBytes, scriptsOnTrial}
 use Rattle.engine.specs.Calls.{Result, run}
 use Rattle.engine.specs.Worked.{worked, answerOf}
+use Rattle.lines.specs.Digits.{ascii, decoded, hexOf, decimal}
+use Rattle.lines.specs.Named.{lineFeed, named}
 use Rattle.worked.specs.declared.input.Call.{Call}
 use Rattle.worked.specs.declared.input.Input.{Input}
 use Rattle.worked.specs.declared.input.Input.the-variants.{Run, Bad}
-use Rattle.worked.specs.Digits.{ascii, decoded, hexOf, decimal}
-use Rattle.worked.specs.Input.{lineFeed, inputOf}
-
--- a line: a name, a value and a line feed
-unfoldable pub named : List ℕ → List ℕ → List ℕ
-named name value = name ++ (value ++ (lineFeed ∷ []))
+use Rattle.worked.specs.Input.{inputOf}
 
 -- the five lines
 unfoldable pub fiveLines : ℕ → ℕ → List ℕ → ℕ → ℕ → List ℕ
 fiveLines refusal executed response used scripts =
-    named (ascii "refusal=") (decimal refusal)
-    ++ (named (ascii "executed=") (decimal executed)
-    ++ (named (ascii "response=") (hexOf response)
-    ++ (named (ascii "used=") (decimal used) ++ named (ascii "scripts=") (decimal scripts))))
+    named (ascii "refusal=") (decimal refusal) lineFeed
+    ++ (named (ascii "executed=") (decimal executed) lineFeed
+    ++ (named (ascii "response=") (hexOf response) lineFeed
+    ++ (named (ascii "used=") (decimal used) lineFeed ++ named (ascii "scripts=") (decimal scripts) lineFeed)))
 
 -- the most that is printed: the names and line feeds have 44 bytes, each number at most 20 digits, and 1,024 bytes 2,048 digits
 abbrev pub mostPrinted : ℕ

@@ -1,7 +1,7 @@
 // Reading the four lines.
-use crate::digits::Number;
-use crate::digits::is_script;
-use crate::digits::number_of;
+use lines::digits::Number;
+use lines::digits::is_script;
+use lines::digits::number_of;
 ghost use mathlib.Core.Path.{_≡_};
 ghost use Prim.Native.Nat.{_+_, _^_, _≤_};
 ghost use lib.ListN.{length};

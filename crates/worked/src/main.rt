@@ -1,7 +1,6 @@
 // The program of the worked card: it reads four lines, runs one script and prints five lines.
-mod digits;
 mod input;
-mod lines;
+mod output;
 mod runs;
 
 use input::Input;
@@ -23,12 +22,12 @@ fn print(input: &[u8], out: &mut [u8]) -> usize
     ensures { λ r. ⌜ (now (out .exit) ≡ overwrite (now (out .entry)) 0 (printed (now (input .entry)))) × (r ≡ length (printed (now (input .entry)))) × (r ≤ mostPrinted) ⌝ }
 {
     let Input::Run(call) = input::input_of(input) else {
-        return lines::put_bad(out);
+        return output::put_bad(out);
     };
     let from = call.from;
     let to = call.to;
     let mut script = [0u8; 8192];
-    let n = digits::decode(&input[from..to], &mut script);
+    let n = lines::digits::decode(&input[from..to], &mut script);
     runs::put_run(call, &script[..n], out)
 }
 

@@ -5,8 +5,9 @@ use mathlib.Core.List.{List}
 use lib.ListN.{length}
 use lib.Seq.{length-take-le}
 use Rattle.octets.specs.Bytes.{part, overwrite}
+use Rattle.lines.proofs.Written.{taken}
 use Rattle.worked.specs.Printed.{ranOn, resultLines}
-use Rattle.worked.proofs.Ran.{input-lies, script-hex, script-short, script-bytes, taken, printed-bad, printed-run}
+use Rattle.worked.proofs.Ran.{input-lies, script-hex, script-short, script-bytes, printed-bad, printed-run}
 use borrow.Author.Needs.{needs}
 use native.Mathlib.Omega.{arith}
 use Rattle.worked.proofs.print.Statement.{statement}

@@ -1,6 +1,6 @@
 -- `worked::input::input_of` meets its contract: each line that is read is the next of `inputOf`. Assumes nothing.
 use mathlib.Core.Path.{sym, _∙_}
-use Rattle.worked.specs.Digits.{ascii}
+use Rattle.lines.specs.Digits.{ascii}
 use Rattle.worked.specs.Input.{inputOf, then, runOf, ScriptFits, InputFits}
 use Rattle.worked.proofs.Reading.{field-small}
 use borrow.Author.Needs.{needs}

@@ -1,6 +1,6 @@
 -- `worked::input::number_at` meets its contract: each `return` is a case of `numberAt`. Assumes nothing.
 use mathlib.Core.Path.{sym, _∙_}
-use Rattle.worked.specs.Digits.{NumberFits}
+use Rattle.lines.specs.Digits.{NumberFits}
 use Rattle.worked.specs.Input.{numberAt, numberIn, before, FieldFits}
 use Rattle.worked.proofs.Reading.{line-lies, number-short, number-long, number-read, few-digits}
 use borrow.Author.Needs.{needs}

@@ -1,7 +1,7 @@
 -- `worked::input::script_at` meets its contract: each `return` is a case of `scriptAt`. Assumes nothing.
 use mathlib.Core.Path.{sym, _∙_}
 use Rattle.octets.specs.Choice.{pick}
-use Rattle.worked.specs.Digits.{ascii}
+use Rattle.lines.specs.Digits.{ascii}
 use Rattle.worked.specs.Input.{scriptAt, scriptIn, ScriptFits}
 use Rattle.worked.proofs.Reading.{line-lies, script-not-last, script-read}
 use borrow.Author.Needs.{needs}

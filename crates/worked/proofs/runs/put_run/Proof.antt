@@ -5,8 +5,9 @@ use lib.Seq.{length-take-le}
 use Rattle.octets.specs.Bytes.{overwrite}
 use Rattle.engine.specs.Calls.{Result}
 use Rattle.engine.specs.Worked.{answerOf}
+use Rattle.lines.proofs.Answers.{answer-fits}
 use Rattle.worked.specs.Printed.{resultLines}
-use Rattle.worked.proofs.Ran.{answer-fits, ran}
+use Rattle.worked.proofs.Ran.{ran}
 use borrow.Author.Needs.{needs}
 use native.Mathlib.Omega.{arith}
 use Rattle.worked.proofs.runs.put_run.Statement.{statement}

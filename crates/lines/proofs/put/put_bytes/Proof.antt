@@ -1,0 +1,56 @@
+-- `lines::put::put_bytes` meets its contract: the name, the signs and the last byte are written one behind the other. Assumes nothing.
+use mathlib.Core.Path.{refl}
+use lib.ListN.{length-set}
+use Rattle.lines.specs.Digits.{hexOf}
+use Rattle.lines.proofs.Signs.{hex-length}
+use Rattle.lines.proofs.Written.{named-written, named-length}
+use borrow.Author.Needs.{needs}
+use native.Mathlib.Omega.{arith}
+use Rattle.lines.proofs.put.put_bytes.Statement.{statement}
+use Rattle.lines.proofs.put.put_bytes.Tie as tie
+
+copy-requires : tie.Need-copy-requires
+copy-requires c κs = search needs
+
+add-from : tie.Need-add-from
+add-from c = search needs
+
+put-hex-requires : tie.Need-put-hex-requires
+put-hex-requires c κs = omega arith
+
+mul-end : tie.Need-mul-end
+mul-end c = search needs
+
+add-end : tie.Need-add-end
+add-end c = search needs
+
+slice-write-out : tie.Need-slice-write-out
+slice-write-out c = search needs
+
+add-result : tie.Need-add-result
+add-result c = search needs
+
+same-length : tie.Need-same-length
+same-length c = simp length-set (omega arith)
+
+returns : tie.Need-returns
+returns c =
+    let a = c .before .before .before .before .before .before .before .before .before .before .before .args in (
+      named-written (a .name .now) (hexOf (a .bytes .now)) (a .last) _ _ _ _ _ (c .before .before .before .before .before .before .copy .ensures) (c .before .before .put-hex .ensures) (omega (arith, hex-length (a .bytes .now))) (omega arith),
+      omega (arith, named-length (a .name .now) (hexOf (a .bytes .now)) (a .last), hex-length (a .bytes .now)),
+      refl,
+    )
+
+pub put-bytes-spec : {M : Type 1} → statement M
+put-bytes-spec =
+    tie.close
+    (tie.spec
+    copy-requires
+    add-from
+    put-hex-requires
+    mul-end
+    add-end
+    slice-write-out
+    add-result
+    same-length
+    returns)
