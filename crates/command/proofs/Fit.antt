@@ -7,6 +7,7 @@ use native.Mathlib.Nat.{min-le-left, min-le-right}
 use native.Mathlib.Omega.{arith}
 use lib.ListN.{length, length-append}
 use borrow.Author.Tests.{leb-true, leb-false}
+use Rattle.octets.proofs.Picks.{on-pick}
 use Rattle.octets.specs.Bytes.{part, bytesOf}
 use Rattle.octets.proofs.Numbers.{bytesOf-length}
 use Rattle.card.specs.declared.Row.{Row}
@@ -22,7 +23,6 @@ use Rattle.session.specs.Session.{atRecord, selected}
 use Rattle.session.specs.Select.{find}
 use Rattle.session.specs.Fcp.{fcp}
 use Rattle.session.specs.Good.{Belongs, GoodFile, Good}
-use Rattle.session.proofs.Owned.{on-pick}
 use Rattle.session.proofs.Good.{good-record, good-dropped, good-put, good-selected, find-belongs}
 use Rattle.session.proofs.Template.{fcp-short}
 use Rattle.command.specs.declared.Format.{Format}

@@ -8,7 +8,7 @@ use lib.Dec.{eqb}
 use lib.ListN.{length}
 use borrow.Author.Tests.{eqb-true}
 use Rattle.octets.specs.Choice.{pick}
-use Rattle.octets.proofs.Picks.{and-left}
+use Rattle.octets.proofs.Picks.{and-left, on-pick}
 use Rattle.card.specs.declared.tree.Found.{Found}
 use Rattle.card.specs.declared.tree.Found.the-variants.{At, Nothing}
 use Rattle.card.specs.Row.{Card, isCyclic}
@@ -19,7 +19,6 @@ use Rattle.journal.proofs.Written.{AllFit, fit-kept, write-lengths}
 use Rattle.journal.proofs.Kept.{forms-fit}
 use Rattle.session.specs.declared.Session.{Session}
 use Rattle.session.specs.Good.{Good}
-use Rattle.session.proofs.Owned.{on-pick}
 use Rattle.command.specs.declared.Format.{Format}
 use Rattle.command.specs.declared.Command.{Command}
 use Rattle.command.specs.Instructions.{caseOf}

@@ -67,8 +67,3 @@ module _ (before : Card) (s : Session) (card : Card) (h : Holds before s card) w
   pub failed-holds : (word : ℕ) → Carries (failed s word)
   unfolding failed carriedOut perform
   failed-holds word = h
-
--- what holds of both is so whichever way a test goes
-pub both-ways : {A : Type 0} (P : A → Type 0) (b : Bool) (x y : A) → P x → P y → P (elim b [ true ↦ x | false ↦ y ])
-both-ways P true x y h g = h
-both-ways P false x y h g = g

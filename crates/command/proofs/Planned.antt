@@ -7,13 +7,13 @@ use Prim.Native.Nat.{ℕ, _≤_}
 use lib.Dec.{eqb}
 use lib.ListN.{length}
 use borrow.Author.Tests.{leb-true, eqb-true}
+use Rattle.octets.proofs.Picks.{on-pick}
 use Rattle.card.specs.declared.Row.{Row}
 use Rattle.card.specs.Row.{Card, rowOf, hasRecords, isCyclic}
 use Rattle.card.specs.Sound.{recordCount, soundTable}
 use Rattle.card.proofs.Promises.{cyclic-records}
 use Rattle.session.specs.declared.Session.{Session}
 use Rattle.session.specs.Good.{Good}
-use Rattle.session.proofs.Owned.{on-pick}
 use Rattle.command.specs.declared.Format.{Format}
 use Rattle.command.specs.declared.Command.{Command}
 use Rattle.command.specs.Instructions.{isRecord}

@@ -7,6 +7,7 @@ use Prim.Native.Nat.{ℕ, _+_, _≤_}
 use native.Mathlib.Omega.{arith}
 use lib.Dec.{eqb}
 use borrow.Author.Tests.{leb-true, eqb-true}
+use Rattle.octets.proofs.Picks.{on-pick}
 use Rattle.octets.specs.Choice.{pick}
 use Rattle.card.specs.declared.tree.Found.{Found}
 use Rattle.card.specs.declared.tree.Found.the-variants.{At, Nothing}
@@ -15,7 +16,6 @@ use Rattle.journal.specs.Entries.{usedBytes, room}
 use Rattle.journal.specs.Changes.{Write, cost}
 use Rattle.journal.proofs.Entries.{either}
 use Rattle.session.specs.declared.Session.{Session}
-use Rattle.session.proofs.Owned.{on-pick}
 use Rattle.command.specs.declared.Format.{Format}
 use Rattle.command.specs.declared.Format.the-variants.{Compact, Expanded}
 use Rattle.command.specs.declared.Command.{Command}

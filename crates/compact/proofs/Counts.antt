@@ -7,18 +7,13 @@ use native.Mathlib.Omega.{arith}
 use lib.Dec.{leb, ltb}
 use lib.ListN.{length}
 use borrow.Author.Tests.{leb-true, leb-false, ltb-true}
+use Rattle.octets.proofs.Picks.{on-pick, on-test}
 use Rattle.card.specs.Row.{Card}
-use Rattle.session.proofs.Owned.{on-pick}
 use Rattle.command.specs.declared.Reading.{Reading}
 use Rattle.command.specs.Outcomes.{wordOf, goesOn}
 use Rattle.command.specs.Commands.{State, started, stepped}
-use Rattle.command.proofs.Keeps.{both-ways}
 use Rattle.compact.specs.Compact.{headerSize, broken, wholeAt, headedAt, readAt, placeAfter, stepAt, runFrom, run}
 use Rattle.compact.proofs.Going.{nothing-left}
-
-either-way : {A : Type 0} (P : A → Type 0) (b : Bool) (x y : A) → (b ≡ true → P x) → (b ≡ false → P y) → P (elim b [ true ↦ x | false ↦ y ])
-either-way P true x y h g = h refl
-either-way P false x y h g = g refl
 
 module _ (script : List ℕ) (application domain : ℕ) (card : Card) where
   -- the place after a command is inside the script, and at its end where the command takes fewer than five bytes
@@ -52,11 +47,11 @@ module _ (script : List ℕ) (application domain : ℕ) (card : Card) where
   unfolding runFrom stepAt stepped
   run-few zero at st inside few = omega arith
   run-few (suc n) at st inside few =
-      either-way Few (ltb at (length script)) _ st
+      on-test Few (ltb at (length script)) _ st
       (λ y.
-      both-ways Few (goesOn (wordOf (stepAt script domain at st .step .outcome))) _ _
-      (next-few n at (stepAt script domain at st) (omega arith) (ltb-true at (length script) y) (run-few n) _ refl)
-      (omega arith))
+      on-test Few (goesOn (wordOf (stepAt script domain at st .step .outcome))) _ _
+      (λ g. next-few n at (stepAt script domain at st) (omega arith) (ltb-true at (length script) y) (run-few n) _ refl)
+      (λ g. omega arith))
       (λ y. omega arith)
 
   pub count-byte : length script ≤ 1024 → run script application domain card .step .count < 256

@@ -4,15 +4,15 @@ use Prim.Native.Nat.{ℕ, zero, suc, _+_, _<_}
 use native.Mathlib.Omega.{arith}
 use lib.Dec.{ltb}
 use lib.ListN.{length}
+use Rattle.octets.proofs.Picks.{on-pick, on-test}
 use Rattle.octets.specs.Bytes.{byte}
 use Rattle.card.specs.Row.{Card}
 use Rattle.session.specs.Session.{start}
-use Rattle.session.proofs.Owned.{on-pick}
 use Rattle.command.specs.declared.Format.the-variants.{Compact}
 use Rattle.command.specs.declared.Reading.{Reading}
 use Rattle.command.specs.Outcomes.{wordOf, goesOn, OutcomeFits}
 use Rattle.command.specs.Commands.{State, started, carriedOut, stepped}
-use Rattle.command.proofs.Keeps.{Holds, both-ways}
+use Rattle.command.proofs.Keeps.{Holds}
 use Rattle.command.proofs.Handed.{outcome-fits}
 use Rattle.compact.specs.Compact.{broken, wholeAt, headedAt, readAt, placeAfter, stepAt, runFrom, run}
 use Rattle.compact.proofs.Runs.{brief, step-holds}
@@ -42,9 +42,9 @@ module _ (script : List ℕ) (small : (i : ℕ) → byte script i < 256) where
     run-fits zero at st h f = f
     run-fits (suc n) at st h f =
         let next = stepAt script domain at st in
-        both-ways Fits (ltb at (length script)) _ st
-        (both-ways Fits (goesOn (wordOf (next .step .outcome))) _ next (run-fits n (placeAfter (readAt script at)) next (step-holds script small before domain at st h) (step-fits at st h)) (step-fits at st h))
-        f
+        on-test Fits (ltb at (length script)) _ st
+        (λ y. on-test Fits (goesOn (wordOf (next .step .outcome))) _ next (λ g. run-fits n (placeAfter (readAt script at)) next (step-holds script small before domain at st h) (step-fits at st h)) (λ g. step-fits at st h))
+        (λ y. f)
 
   pub outcome-inside : (before : Card) (application domain : ℕ) (card : Card) → Holds before (start application) card → OutcomeFits (length (run script application domain card .card .files)) (run script application domain card .step .outcome)
   unfolding run started OutcomeFits

@@ -4,16 +4,16 @@ use Prim.Native.Nat.{ℕ, zero, suc, _+_, _≤_, _<_}
 use native.Mathlib.Omega.{arith}
 use lib.Dec.{ltb}
 use lib.ListN.{length, length-take}
+use Rattle.octets.proofs.Picks.{on-pick, on-test}
 use Rattle.octets.specs.Bytes.{byte, part}
 use Rattle.card.specs.Row.{Card}
 use Rattle.session.specs.Session.{start}
-use Rattle.session.proofs.Owned.{on-pick}
 use Rattle.command.specs.declared.Format.the-variants.{Compact}
 use Rattle.command.specs.declared.Reading.{Reading}
 use Rattle.command.specs.Instructions.{carriesData}
 use Rattle.command.specs.Outcomes.{wordOf, goesOn}
 use Rattle.command.specs.Commands.{State, started, stepped}
-use Rattle.command.proofs.Keeps.{Holds, command-holds, both-ways}
+use Rattle.command.proofs.Keeps.{Holds, command-holds}
 use Rattle.compact.specs.Compact.{dataBehind, broken, wholeAt, headedAt, readAt, placeAfter, stepAt, runFrom, run}
 
 module _ (script : List ℕ) (small : (i : ℕ) → byte script i < 256) where
@@ -40,9 +40,9 @@ module _ (script : List ℕ) (small : (i : ℕ) → byte script i < 256) where
     unfolding runFrom
     run-holds zero at st h = h
     run-holds (suc n) at st h =
-        both-ways Kept (ltb at (length script)) _ st
-        (both-ways Kept (goesOn (wordOf (stepAt script domain at st .step .outcome))) _ _ (run-holds n (placeAfter (readAt script at)) (stepAt script domain at st) (step-holds at st h)) (step-holds at st h))
-        h
+        on-test Kept (ltb at (length script)) _ st
+        (λ y. on-test Kept (goesOn (wordOf (stepAt script domain at st .step .outcome))) _ _ (λ g. run-holds n (placeAfter (readAt script at)) (stepAt script domain at st) (step-holds at st h)) (λ g. step-holds at st h))
+        (λ y. h)
 
   pub run-keeps : (before : Card) (application domain : ℕ) (card : Card) → Holds before (start application) card → Holds before (run script application domain card .step .session) (run script application domain card .card)
   unfolding run started

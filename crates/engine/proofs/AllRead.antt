@@ -8,8 +8,7 @@ use lib.Dec.{ltb}
 use lib.ListN.{length}
 use borrow.Author.Tests.{ltb-true, le-ltb}
 use Rattle.octets.specs.Bytes.{byte, part}
-use Rattle.octets.proofs.Picks.{pick-false}
-use Rattle.session.proofs.Owned.{on-pick}
+use Rattle.octets.proofs.Picks.{pick-false, on-pick}
 use Rattle.command.specs.declared.Reading.{Reading}
 use Rattle.compact.specs.Compact.{broken, wholeAt, headedAt, readAt, placeAfter}
 use Rattle.expanded.specs.declared.template.Template.{Template}

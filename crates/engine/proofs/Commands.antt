@@ -6,11 +6,10 @@ use mathlib.Core.List.{List, [], _∷_}
 use native.Mathlib.Omega.{arith}
 use lib.Dec.{ltb}
 use lib.ListN.{length}
+use Rattle.octets.proofs.Picks.{on-pick, on-test}
 use Rattle.octets.specs.Bytes.{part}
 use Rattle.card.specs.Row.{Card}
-use Rattle.session.proofs.Owned.{on-pick}
 use Rattle.command.specs.Commands.{State, started, stepped}
-use Rattle.command.proofs.Keeps.{both-ways}
 use Rattle.compact.specs.Compact as compact
 use Rattle.compact.specs.Compact.{readAt, placeAfter, stepAt}
 use Rattle.expanded.specs.declared.template.Template.{Template}
@@ -44,7 +43,7 @@ module _ {S R : Type 0} (does : S → R → S) (on : S → Bool) where
   -- a last command
   one-last : (s : S) (r : R) → does s r ≡ ends s (r ∷ [])
   unfolding lastOf after
-  one-last s r = both-ways (λ (l : List S). does s r ≡ lastOf (does s r) l) (on (does s r)) [] [] refl refl
+  one-last s r = on-test (λ (l : List S). does s r ≡ lastOf (does s r) l) (on (does s r)) [] [] (λ y. refl) (λ n. refl)
 
   -- where each command counts one, the last state counts all that ran
   module _ (count : S → ℕ) (one : (s : S) (r : R) → count (does s r) ≡ count s + 1) where

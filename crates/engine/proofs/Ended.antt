@@ -7,6 +7,7 @@ use native.Mathlib.Omega.{arith}
 use lib.Dec.{ltb}
 use lib.ListN.{length, take, length-append}
 use lib.Seq.{take-add}
+use Rattle.octets.proofs.Picks.{on-pick}
 use Rattle.octets.specs.Choice.{pick}
 use Rattle.octets.specs.Bytes.{byte, bytes2, overwrite}
 use Rattle.octets.proofs.Writes.{write-none}
@@ -18,7 +19,6 @@ use Rattle.journal.specs.Changes.{takenBack}
 use Rattle.journal.proofs.Parts.{card-table}
 use Rattle.session.specs.Session.{start}
 use Rattle.session.proofs.Good.{good-start}
-use Rattle.session.proofs.Owned.{on-pick}
 use Rattle.command.specs.declared.Format.the-variants.{Compact, Expanded}
 use Rattle.command.specs.declared.Step.{Step}
 use Rattle.command.specs.Outcomes.{dataCount, OutcomeFits}

@@ -9,7 +9,7 @@ use lib.ListN.{length}
 use borrow.Author.Tests.{leb-true, ltb-true, eqb-true}
 use Rattle.octets.specs.Choice.{pick}
 use Rattle.octets.specs.Bytes.{byte, numAt}
-use Rattle.octets.proofs.Picks.{and-left, and-right}
+use Rattle.octets.proofs.Picks.{and-left, and-right, on-pick}
 use Rattle.octets.proofs.Numbers.{num-small}
 use Rattle.command.specs.declared.Reading.{Reading}
 use Rattle.expanded.specs.declared.lengths.Length.{Length}
@@ -20,23 +20,17 @@ use Rattle.expanded.specs.Lengths.{shortLength, longLength, lengthAt, Le
 use Rattle.expanded.specs.Templates.{definite, indefinite, templateOf, TemplateFits, isCapduTag, valueAt, itemAt, ItemFits}
 use Rattle.expanded.specs.Capdu.{caseBySize, carried, capduCommand, CapduFits}
 
--- what both values of a choice have, the choice has
-pub pick-has : {A : Type 0} (P : A → Type 0) (b : Bool) (x y : A) → (b ≡ true → P x) → (b ≡ false → P y) → P (pick b x y)
-unfolding pick
-pick-has P true x y f g = f refl
-pick-has P false x y f g = g refl
-
 -- what comes of a length
 definite-fits : (l : Length) (at end : ℕ) → LengthFits at end l → TemplateFits end (definite l end)
 unfolding LengthFits TemplateFits definite
 definite-fits (Found n place) at end fits =
-    pick-has (TemplateFits end) (eqb (place + n) end) _ _ (λ whole. (fits .1, omega arith)) (λ other. tt)
+    on-pick (TemplateFits end) (eqb (place + n) end) _ _ (λ whole. (fits .1, omega arith)) (λ other. tt)
 definite-fits (Bad code) at end fits = tt
 
 value-fits : (l : Length) (at end : ℕ) → at < end → LengthFits (at + 1) end l → ItemFits at end (valueAt l end)
 unfolding LengthFits ItemFits valueAt
 value-fits (Found n place) at end more fits =
-    pick-has (ItemFits at end) (leb (place + n) end && leb 4 n) _ _
+    on-pick (ItemFits at end) (leb (place + n) end && leb 4 n) _ _
     (λ both. (omega arith, leb-true (place + n) end (and-left (leb (place + n) end) (leb 4 n) both), leb-true 4 n (and-right (leb (place + n) end) (leb 4 n) both)))
     (λ other. (more, omega arith))
 value-fits (Bad code) at end more fits = (more, fits)
@@ -46,33 +40,33 @@ module _ (bs : List ℕ) (bytes : (k : ℕ) → byte bs k < 256) where
   short-fits : (at end : ℕ) → LengthFits at end (shortLength bs (at + 1) end)
   unfolding shortLength LengthFits
   short-fits at end =
-      pick-has (LengthFits at end) (leb (at + 1 + 1) end) _ _
+      on-pick (LengthFits at end) (leb (at + 1 + 1) end) _ _
       (λ there.
       let h = leb-true (at + 1 + 1) end there in
       let b = bytes (at + 1) in
-      pick-has (LengthFits at end) (leb 0x80 (byte bs (at + 1))) _ _ (λ right. (omega arith, omega arith, omega arith)) (λ wrong. omega arith))
+      on-pick (LengthFits at end) (leb 0x80 (byte bs (at + 1))) _ _ (λ right. (omega arith, omega arith, omega arith)) (λ wrong. omega arith))
       (λ missing. omega arith)
 
   long-fits : (at end : ℕ) → LengthFits at end (longLength bs (at + 1) end)
   unfolding longLength LengthFits
   long-fits at end =
-      pick-has (LengthFits at end) (leb (at + 1 + 2) end) _ _
+      on-pick (LengthFits at end) (leb (at + 1 + 2) end) _ _
       (λ there.
       let h = leb-true (at + 1 + 2) end there in
       let b = num-small bs (at + 1) (bytes (at + 1)) (bytes (at + 1 + 1)) in
-      pick-has (LengthFits at end) (leb 0x0100 (numAt bs (at + 1))) _ _ (λ right. (omega arith, omega arith, b)) (λ wrong. omega arith))
+      on-pick (LengthFits at end) (leb 0x0100 (numAt bs (at + 1))) _ _ (λ right. (omega arith, omega arith, b)) (λ wrong. omega arith))
       (λ missing. omega arith)
 
   length-fits : (at end : ℕ) → LengthFits at end (lengthAt bs at end)
   unfolding lengthAt LengthFits
   length-fits at end =
-      pick-has (LengthFits at end) (leb (at + 1) end) _ _
+      on-pick (LengthFits at end) (leb (at + 1) end) _ _
       (λ here.
       let h = leb-true (at + 1) end here in
       let b = bytes at in
-      pick-has (LengthFits at end) (leb (byte bs at) 0x7F) _ _ (λ small. (omega arith, omega arith, omega arith))
-      (λ large. pick-has (LengthFits at end) (eqb (byte bs at) 0x81) _ _ (λ short. short-fits at end)
-      (λ other. pick-has (LengthFits at end) (eqb (byte bs at) 0x82) _ _ (λ long. long-fits at end) (λ wrong. omega arith))))
+      on-pick (LengthFits at end) (leb (byte bs at) 0x7F) _ _ (λ small. (omega arith, omega arith, omega arith))
+      (λ large. on-pick (LengthFits at end) (eqb (byte bs at) 0x81) _ _ (λ short. short-fits at end)
+      (λ other. on-pick (LengthFits at end) (eqb (byte bs at) 0x82) _ _ (λ long. long-fits at end) (λ wrong. omega arith))))
       (λ missing. omega arith)
 
   pub length-told : (at end : ℕ) {l : Length} → l ≡ lengthAt bs at end → (l ≡ lengthAt bs at end) × LengthFits at end l
@@ -81,12 +75,12 @@ module _ (bs : List ℕ) (bytes : (k : ℕ) → byte bs k < 256) where
   template-fits : TemplateFits (length bs) (templateOf bs)
   unfolding templateOf TemplateFits indefinite
   template-fits =
-      pick-has (TemplateFits (length bs)) (eqb (byte bs 0) 0xAA) _ _
+      on-pick (TemplateFits (length bs)) (eqb (byte bs 0) 0xAA) _ _
       (λ first. definite-fits (lengthAt bs 1 (length bs)) 1 (length bs) (length-fits 1 (length bs)))
       (λ other.
-      pick-has (TemplateFits (length bs)) (eqb (byte bs 0) 0xAE) _ _
+      on-pick (TemplateFits (length bs)) (eqb (byte bs 0) 0xAE) _ _
       (λ second.
-      pick-has (TemplateFits (length bs)) _ _ _
+      on-pick (TemplateFits (length bs)) _ _ _
       (λ whole. let h = leb-true 4 (length bs) (and-left (leb 4 (length bs)) _ whole) in (omega arith, omega arith))
       (λ broken. tt))
       (λ none. tt))
@@ -97,10 +91,10 @@ module _ (bs : List ℕ) (bytes : (k : ℕ) → byte bs k < 256) where
   item-fits : (at end : ℕ) → ItemFits at end (itemAt bs at end)
   unfolding itemAt ItemFits
   item-fits at end =
-      pick-has (ItemFits at end) (ltb at end) _ _
+      on-pick (ItemFits at end) (ltb at end) _ _
       (λ more.
       let h = ltb-true at end more in
-      pick-has (ItemFits at end) (isCapduTag (byte bs at)) _ _
+      on-pick (ItemFits at end) (isCapduTag (byte bs at)) _ _
       (λ tag. value-fits (lengthAt bs (at + 1) end) at end h (length-fits (at + 1) end))
       (λ other. (h, omega arith)))
       (λ done. tt)
@@ -112,10 +106,10 @@ module _ (bs : List ℕ) (bytes : (k : ℕ) → byte bs k < 256) where
 case-sized : (capdu : List ℕ) → 3 ≤ caseBySize capdu → 5 + byte capdu 4 ≤ length capdu
 unfolding caseBySize
 case-sized capdu =
-    pick-has Sized (eqb (length capdu) 4) _ _ (λ e h. omega arith)
-    (λ n1. pick-has Sized (eqb (length capdu) 5) _ _ (λ e h. omega arith)
-    (λ n2. pick-has Sized (eqb (length capdu) (5 + byte capdu 4)) _ _ (λ e h. let l = eqb-true (length capdu) (5 + byte capdu 4) e in omega arith)
-    (λ n3. pick-has Sized (eqb (length capdu) (6 + byte capdu 4) && eqb (byte capdu (length capdu - 1)) 0) _ _ (λ e h. let l = eqb-true (length capdu) (6 + byte capdu 4) (and-left (eqb (length capdu) (6 + byte capdu 4)) _ e) in omega arith) (λ e h. omega arith))))
+    on-pick Sized (eqb (length capdu) 4) _ _ (λ e h. omega arith)
+    (λ n1. on-pick Sized (eqb (length capdu) 5) _ _ (λ e h. omega arith)
+    (λ n2. on-pick Sized (eqb (length capdu) (5 + byte capdu 4)) _ _ (λ e h. let l = eqb-true (length capdu) (5 + byte capdu 4) e in omega arith)
+    (λ n3. on-pick Sized (eqb (length capdu) (6 + byte capdu 4) && eqb (byte capdu (length capdu - 1)) 0) _ _ (λ e h. let l = eqb-true (length capdu) (6 + byte capdu 4) (and-left (eqb (length capdu) (6 + byte capdu 4)) _ e) in omega arith) (λ e h. omega arith))))
   where
     Sized : ℕ → Type 0
     Sized n = 3 ≤ n → 5 + byte capdu 4 ≤ length capdu
@@ -159,7 +153,7 @@ module _ (capdu : List ℕ) (bytes : (k : ℕ) → byte capdu k < 256) (least : 
         p1 = bytes 2;
         p2 = bytes 3;
         p3 = bytes 4;
-        brief = pick-has (λ (n : ℕ). n < 256) (leb 3 (caseBySize capdu)) (byte capdu 4) 0 (λ e. bytes 4) (λ e. omega arith);
+        brief = on-pick (λ (n : ℕ). n < 256) (leb 3 (caseBySize capdu)) (byte capdu 4) 0 (λ e. bytes 4) (λ e. omega arith);
       }
 
   pub command-told : {n a b p q r from count : ℕ} → n ≡ caseBySize capdu → a ≡ byte capdu 0 → b ≡ byte capdu 1 → p ≡ byte capdu 2 → q ≡ byte capdu 3 → r ≡ byte capdu 4 → from ≡ pick (leb 3 n) 5 4 → count ≡ pick (leb 3 n) (byte capdu 4) 0 → Told capdu (read n a b p q r from count)

@@ -5,6 +5,7 @@ use mathlib.Core.List.{List}
 use Prim.Native.Nat.{ℕ, zero, suc, _+_, _≤_, _<_}
 use native.Mathlib.Omega.{arith}
 use lib.ListN.{length}
+use Rattle.octets.proofs.Picks.{on-pick}
 use Rattle.octets.specs.Bytes.{byte, part}
 use Rattle.card.specs.Row.{Card, entries, rowOf}
 use Rattle.card.specs.Tree.{isRoot}
@@ -13,7 +14,6 @@ use Rattle.journal.specs.Sound.{soundCard}
 use Rattle.journal.specs.Changes.{takenBack}
 use Rattle.journal.proofs.Parts.{card-table}
 use Rattle.session.proofs.Good.{good-start}
-use Rattle.session.proofs.Owned.{on-pick}
 use Rattle.command.specs.declared.Step.{Step}
 use Rattle.command.specs.Outcomes.{wordOf, goesOn}
 use Rattle.command.specs.Commands.{started, stepped}

@@ -8,7 +8,7 @@ use lib.Dec.{ltb, eqb}
 use lib.ListN.{length}
 use borrow.Author.Tests.{ltb-false, le-ltb}
 use Rattle.octets.specs.Choice.{pick}
-use Rattle.octets.proofs.Picks.{pick-true, pick-false}
+use Rattle.octets.proofs.Picks.{pick-true, pick-false, on-pick}
 use Rattle.card.specs.Row.{Card}
 use Rattle.journal.specs.Entries.{usedBytes, room}
 use Rattle.journal.specs.Sound.{soundCard}
@@ -28,7 +28,6 @@ use Rattle.step.specs.Decisions.{planOf, Decided}
 use Rattle.step.proofs.Acts.{none-fits}
 use Rattle.expanded.specs.Lengths.{lengthBytes}
 use Rattle.expanded.specs.Expanded.{rapduSize, keeps, mostKept, roomToGather, limited}
-use Rattle.expanded.proofs.Fits.{pick-has}
 
 -- whether the R-APDU of a command with n data bytes is kept and would pass the 1,000 bytes
 abbrev pub passes : ℕ → Bool → ℕ → Bool
@@ -75,7 +74,7 @@ module _ (kept : ℕ) (counts : Bool) (s : Session) (few : kept ≤ mostKept) wh
 
     limited-fits : OutcomeFits (length (carriedOut left card .card .files)) (left .outcome)
     unfolding limited failed OutcomeFits
-    limited-fits = pick-has (λ (p : Plan). OutcomeFits (length (carriedOut p card .card .files)) (p .outcome)) _ _ _ (λ over. tt) (λ fits. outcome-fits s card sound good Expanded domain c «data» brief p3)
+    limited-fits = on-pick (λ (p : Plan). OutcomeFits (length (carriedOut p card .card .files)) (p .outcome)) _ _ _ (λ over. tt) (λ fits. outcome-fits s card sound good Expanded domain c «data» brief p3)
 
     pub decided-few : (d : Decision) → Decided card «data» plan d → dataCount (d .outcome) ≤ 256
     unfolding planOf
@@ -83,7 +82,7 @@ module _ (kept : ℕ) (counts : Bool) (s : Session) (few : kept ≤ mostKept) wh
 
     -- what is so of an R-APDU that passes, and of one that does not
     by-passing : (P : Plan → Type 0) → (passes kept counts (dataCount (plan .outcome)) ≡ true → P (failed s 0x6F00)) → (passes kept counts (dataCount (plan .outcome)) ≡ false → P plan) → P left
-    by-passing P over fits = subst P (sym (by-test counts plan)) (pick-has P _ _ _ over fits)
+    by-passing P over fits = subst P (sym (by-test counts plan)) (on-pick P _ _ _ over fits)
 
     limited-kept : counts ≡ true → goesOn (wordOf (left .outcome)) ≡ true → kept + rapduSize (dataCount (left .outcome)) ≤ mostKept
     unfolding failed

@@ -5,15 +5,15 @@ use Prim.Native.Nat.{ℕ, zero, suc, _+_, _≤_, _<_}
 use native.Mathlib.Decide.{decLt}
 use native.Mathlib.Omega.{arith}
 use lib.ListN.{length, length-take, List·getD-eq-default}
+use Rattle.octets.proofs.Picks.{on-pick, on-test}
 use Rattle.octets.specs.Bytes.{byte, part}
 use Rattle.octets.proofs.Numbers.{byte-part}
 use Rattle.card.specs.Row.{Card}
 use Rattle.session.specs.Session.{start}
-use Rattle.session.proofs.Owned.{on-pick}
 use Rattle.command.specs.declared.Format.the-variants.{Expanded}
 use Rattle.command.specs.Outcomes.{wordOf, goesOn}
 use Rattle.command.specs.Commands.{State, started, stepped}
-use Rattle.command.proofs.Keeps.{Holds, Carries, command-holds, failed-holds, both-ways}
+use Rattle.command.proofs.Keeps.{Holds, Carries, command-holds, failed-holds}
 use Rattle.expanded.specs.declared.template.Template.{Template}
 use Rattle.expanded.specs.declared.template.Template.the-variants.{Definite, Indefinite, Missing}
 use Rattle.expanded.specs.declared.template.Item.{Item}
@@ -75,7 +75,7 @@ module _ (script : List ℕ) (small : (i : ℕ) → byte script i < 256) (before
   run-holds (suc n) at end p h =
       on-item (Kept before) (itemAt script at end) _ _ p
       (λ from size. let next = script-capdu-holds from size p h in
-      both-ways (Kept before) (goesOn (wordOf (stepCapdu definite domain (part script from size) p .state .step .outcome))) _ _ (run-holds n (from + size) end (stepCapdu definite domain (part script from size) p) next) next)
+      on-test (Kept before) (goesOn (wordOf (stepCapdu definite domain (part script from size) p .state .step .outcome))) _ _ (λ g. run-holds n (from + size) end (stepCapdu definite domain (part script from size) p) next) (λ g. next))
       (λ code. bad-holds before code p h)
       h
 

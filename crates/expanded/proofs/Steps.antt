@@ -7,6 +7,7 @@ use native.Mathlib.Nat.{le-refl}
 use native.Mathlib.Omega.{arith}
 use lib.ListN.{length, take}
 use lib.Seq.{length-take-le, take-add}
+use Rattle.octets.proofs.Picks.{on-pick}
 use Rattle.octets.specs.Choice.{pick}
 use Rattle.octets.specs.Bytes.{part, overwrite}
 use Rattle.octets.proofs.Writes.{take-before, take-through, part-here}
@@ -20,7 +21,6 @@ use Rattle.expanded.specs.declared.run.Gathered.{Gathered}
 use Rattle.expanded.specs.declared.template.Template.the-variants.{Definite, Indefinite}
 use Rattle.expanded.specs.Capdu.{capduCommand}
 use Rattle.expanded.specs.Expanded.{badFormat, keeps, mostKept, roomToGather, limited, Progress, progressOf, answered, gatheredIn, lastRapdu, stepCapdu, stepBad, answerBytes, answer}
-use Rattle.expanded.proofs.Fits.{pick-has}
 
 -- bytes behind those kept: more of them, or the last
 module _ (out : List ℕ) (kept : ℕ) (new : List ℕ) (fits : kept + length new ≤ length out) (step : Step) (card : Card) {now : List ℕ} (is : now ≡ overwrite out kept new) {n : ℕ} (size : n ≡ length new) where
@@ -34,7 +34,7 @@ pub gathered-within : (counts : Bool) (step : Step) (kept n : ℕ) → kept + n 
     → {g : Gathered} → g ≡ gatheredIn counts step kept n → (g .kept + g .last ≤ roomToGather) × (goesOn (wordOf (g .step .outcome)) ≡ true → g .kept ≤ mostKept)
 unfolding gatheredIn
 gathered-within counts step kept n room few rule e =
-    subst Within (sym e) (pick-has Within counts _ _ (λ y. (omega arith, rule y)) (λ no. (room, λ going. few)))
+    subst Within (sym e) (on-pick Within counts _ _ (λ y. (omega arith, rule y)) (λ no. (room, λ going. few)))
   where
     Within : Gathered → Type 0
     Within g = (g .kept + g .last ≤ roomToGather) × (goesOn (wordOf (g .step .outcome)) ≡ true → g .kept ≤ mostKept)

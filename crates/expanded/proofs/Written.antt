@@ -7,11 +7,10 @@ use native.Mathlib.Omega.{arith}
 use lib.Dec.{ltb}
 use lib.ListN.{length, length-append}
 use Rattle.octets.specs.Bytes.{bytes2, overwrite}
-use Rattle.octets.proofs.Picks.{lt-yes, lt-no}
+use Rattle.octets.proofs.Picks.{lt-yes, lt-no, on-pick}
 use Rattle.octets.proofs.Writes.{write-two}
 use Rattle.expanded.specs.Lengths.{lengthBytes, countBytes}
 use Rattle.expanded.specs.Expanded.{rapdu, rapduSize, definiteBody, definiteAnswer, indefiniteAnswer}
-use Rattle.expanded.proofs.Fits.{pick-has}
 
 -- the bytes of a length, by its size
 module _ (n : ℕ) where
@@ -30,14 +29,14 @@ module _ (n : ℕ) where
   pub length-some : 1 ≤ length (lengthBytes n)
   unfolding lengthBytes
   length-some =
-      pick-has (λ (d : List ℕ). 1 ≤ length d) (ltb n 0x80) _ _ (λ e. omega arith)
-      (λ e. pick-has (λ (d : List ℕ). 1 ≤ length d) (ltb n 0x0100) _ _ (λ f. omega arith) (λ f. omega arith))
+      on-pick (λ (d : List ℕ). 1 ≤ length d) (ltb n 0x80) _ _ (λ e. omega arith)
+      (λ e. on-pick (λ (d : List ℕ). 1 ≤ length d) (ltb n 0x0100) _ _ (λ f. omega arith) (λ f. omega arith))
 
   pub length-few : length (lengthBytes n) ≤ 3
   unfolding lengthBytes bytes2
   length-few =
-      pick-has (λ (d : List ℕ). length d ≤ 3) (ltb n 0x80) _ _ (λ e. omega arith)
-      (λ e. pick-has (λ (d : List ℕ). length d ≤ 3) (ltb n 0x0100) _ _ (λ f. omega arith) (λ f. omega arith))
+      on-pick (λ (d : List ℕ). length d ≤ 3) (ltb n 0x80) _ _ (λ e. omega arith)
+      (λ e. on-pick (λ (d : List ℕ). length d ≤ 3) (ltb n 0x0100) _ _ (λ f. omega arith) (λ f. omega arith))
 
   -- the bytes of a count, by its size
   pub count-one : n < 0x80 → n ∷ [] ≡ countBytes n

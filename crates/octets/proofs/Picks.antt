@@ -42,6 +42,16 @@ module _ {A : Type 0} where
 
 pub ruleset picks = (lt-yes, lt-no, le-yes, le-no, eq-yes, eq-no, eq-other)
 
+-- what holds of both ways of a choice holds of it
+pub on-pick : {A : Type 0} (P : A → Type 0) (b : Bool) (x y : A) → (b ≡ true → P x) → (b ≡ false → P y) → P (pick b x y)
+unfolding pick
+on-pick P true x y h g = h refl
+on-pick P false x y h g = g refl
+
+pub on-test : {A : Type 0} (P : A → Type 0) (b : Bool) (x y : A) → (b ≡ true → P x) → (b ≡ false → P y) → P (elim b [ true ↦ x | false ↦ y ])
+on-test P true x y h g = h refl
+on-test P false x y h g = g refl
+
 pub and-left : (a b : Bool) → (a && b) ≡ true → a ≡ true
 and-left true b e = refl
 and-left false b e = e

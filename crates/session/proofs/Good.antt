@@ -8,6 +8,7 @@ use native.Mathlib.Omega.{arith}
 use lib.Dec.{eqb}
 use lib.ListN.{length}
 use borrow.Author.Tests.{eqb-true, ne-eqb}
+use Rattle.octets.proofs.Picks.{on-pick}
 use Rattle.octets.specs.Choice.{pick}
 use Rattle.octets.specs.Bytes.{overwrite}
 use Rattle.octets.proofs.Writes.{write-length}
@@ -22,7 +23,7 @@ use Rattle.session.specs.declared.Session.{Session}
 use Rattle.session.specs.Session.{none, mostWaiting, start, dropped, putDown, atRecord, moved, selected}
 use Rattle.session.specs.Select.{find}
 use Rattle.session.specs.Good.{Belongs, GoodFile, Good}
-use Rattle.session.proofs.Owned.{on-pick, root-belongs, parent-belongs, find-owned}
+use Rattle.session.proofs.Owned.{root-belongs, parent-belongs, find-owned}
 
 -- kinds
 either : (a b : Bool) {P : Type 0} → (a ≡ true → P) → (b ≡ true → P) → (a || b) ≡ true → P

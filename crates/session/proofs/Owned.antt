@@ -6,8 +6,7 @@ use Prim.Native.Nat.{ℕ, _+_, _*_, _<_}
 use native.Mathlib.Omega.{arith}
 use lib.Dec.{eqb}
 use borrow.Author.Tests.{eqb-true, eqb-false, not-true}
-use Rattle.octets.specs.Choice.{pick}
-use Rattle.octets.proofs.Picks.{and-left, and-right, refuted}
+use Rattle.octets.proofs.Picks.{and-left, and-right, refuted, on-pick}
 use Rattle.card.specs.declared.Row.{Row}
 use Rattle.card.specs.declared.tree.Found.{Found}
 use Rattle.card.specs.declared.tree.Found.the-variants.{At, Nothing}
@@ -20,12 +19,7 @@ use Rattle.session.specs.Select.{ifNamed, above, byIdentifier, byPath, f
 use Rattle.session.specs.Good.{Belongs}
 use Rattle.session.proofs.Finds.{onward}
 
--- what holds of both is so of a choice, and of the first finding
-pub on-pick : {A : Type 0} (P : A → Type 0) (b : Bool) (x y : A) → (b ≡ true → P x) → (b ≡ false → P y) → P (pick b x y)
-unfolding pick
-on-pick P true x y h g = h refl
-on-pick P false x y h g = g refl
-
+-- what holds of both findings is so of the first
 on-or : (P : Found → Type 0) (f g : Found) → P f → P g → P (orElse f g)
 unfolding orElse
 on-or P (At e) g h k = h

@@ -9,7 +9,7 @@ use lib.ListN.{length}
 use lib.Dec.{leb, eqb}
 use borrow.Author.Tests.{leb-true, ltb-true, eqb-true, ne-eqb}
 use Rattle.octets.specs.Choice.{pick}
-use Rattle.octets.proofs.Picks.{and-left, and-right}
+use Rattle.octets.proofs.Picks.{and-left, and-right, on-pick}
 use Rattle.card.specs.declared.Row.{Row}
 use Rattle.card.specs.Row.{Card, Narrow, entries, rowOf, isCyclic, hasRecords, placeOfNewest, placeOfState}
 use Rattle.card.specs.Sound.{recordCount, ownSound, soundTable}
@@ -18,7 +18,6 @@ use Rattle.card.proofs.Promises.{some-entries, few-entries, cyclic-records, fil
 use Rattle.card.proofs.Places.{place-below, ends-inside}
 use Rattle.journal.proofs.Parts.{Parts, card-table, card-parts}
 use Rattle.session.specs.declared.Session.{Session}
-use Rattle.session.proofs.Owned.{on-pick}
 use Rattle.command.specs.declared.Command.{Command}
 use Rattle.command.specs.Instructions as ins
 use Rattle.command.specs.Instructions.{isKnown, isRecord}

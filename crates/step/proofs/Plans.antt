@@ -11,14 +11,13 @@ use lib.Dec.{leb, ltb, eqb}
 use borrow.Author.Tests.{leb-true, ltb-true, eqb-true, le-leb}
 use Rattle.octets.specs.Choice.{pick}
 use Rattle.octets.specs.Bytes.{byte, overwrite}
-use Rattle.octets.proofs.Picks.{pick-true, pick-false, and-left, and-right}
+use Rattle.octets.proofs.Picks.{pick-true, pick-false, and-left, and-right, on-pick}
 use Rattle.card.specs.declared.tree.Found.the-variants as Found
 use Rattle.card.specs.Row.{Card, rowOf}
 use Rattle.journal.specs.Entries.{usedBytes, room}
 use Rattle.journal.specs.Changes.{cost}
 use Rattle.session.specs.declared.Session.{Session}
 use Rattle.session.specs.Session.{atRecord}
-use Rattle.session.proofs.Owned.{on-pick}
 use Rattle.command.specs.declared.Format.{Format}
 use Rattle.command.specs.Instructions as ins
 use Rattle.command.specs.Outcomes.{Plan, failed, done, produced, normal, endOfData}
