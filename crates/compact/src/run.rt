@@ -34,7 +34,7 @@ fn step_at(
     let from = r.from;
     let end = from + r.count;
     let c = r.command;
-    step::run_command(
+    step::lent::run_step(
         Format::Compact,
         domain,
         c,

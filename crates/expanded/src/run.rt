@@ -3,9 +3,9 @@ use crate::answer::put_bad;
 use crate::answer::put_rapdu;
 use crate::answer::rapdu_size;
 use crate::capdu::command_of;
+use crate::reader::next_item;
 use crate::template::Item;
 use crate::template::capdu;
-use crate::template::item_at;
 use command::Command;
 use command::Format;
 use command::Outcome;
@@ -199,7 +199,7 @@ pub fn run(
     };
     let mut place: usize = at;
     loop {
-        match item_at(script, place, end) {
+        match next_item(script, place, end) {
             Item::Capdu(from, size) => {
                 g = step_capdu(
                     definite,

@@ -15,13 +15,14 @@ use Rattle.journal.specs.Changes.{Write, fileMemory, tableMemory, cost}
 use Rattle.session.specs.declared.Session.{Session}
 use Rattle.session.specs.Good.{Good}
 use Rattle.command.specs.declared.Command.{Command}
+use Rattle.command.specs.declared.Outcome.{Outcome}
 use Rattle.command.specs.Instructions as ins
 use Rattle.command.specs.Instructions.{isKnown}
 use Rattle.command.specs.Outcomes.{Plan, failed}
 use Rattle.command.specs.Files.{File, Recorded}
 use Rattle.command.specs.Plans.{Situation, offsetOf, namedBy, getResponse}
 use Rattle.command.specs.Checks.{nothingWaits, moreThanWaits, sumTooLong, journalFull, checkWord, laterChecks, firstFailing, kindFits, offsetFits, recordFits, lengthFits, sumFits}
-use Rattle.command.specs.Commands.{decided}
+use Rattle.command.specs.Commands.{Moved, decided}
 use Rattle.step.specs.declared.plan.NewRecord.{NewRecord}
 use Rattle.step.specs.declared.plan.Change.{Change}
 use Rattle.step.specs.declared.plan.Change.the-variants.{Nothing, Content, DataRecord, SumRecord, TableByte}
@@ -135,3 +136,7 @@ pub record Decided (card : Card) («data» : List ℕ) (plan : Plan) (d : Decisi
   pub same : planOf d «data» ≡ plan
   pub fits : Fits (length (card .table)) (length (card .files)) (length «data») (d .change)
   pub journal : usedBytes (card .journal) + cost (plan .writes) ≤ room (card .journal)
+
+-- a session, an outcome and a card after a command
+abbrev pub movedTo : Session → Outcome → Card → Moved
+movedTo s outcome card = record { session = s; outcome = outcome; card = card }

@@ -36,18 +36,18 @@ add-end : tie.Need-add-end
 unfolding placeAfter
 add-end c = let inside = c .before .read-at .ensures .1 .inside in omega arith
 
-sub-run-command : tie.Need-sub-run-command
-sub-run-command c = search needs
+sub-run-step : tie.Need-sub-run-step
+sub-run-step c = search needs
 
-part-run-command-start : tie.Need-part-run-command-start
-part-run-command-start c = search needs
+part-run-step-start : tie.Need-part-run-step-start
+part-run-step-start c = search needs
 
-part-run-command-end : tie.Need-part-run-command-end
+part-run-step-end : tie.Need-part-run-step-end
 unfolding placeAfter
-part-run-command-end c = let inside = c .before .before .read-at .ensures .1 .inside in omega arith
+part-run-step-end c = let inside = c .before .before .read-at .ensures .1 .inside in omega arith
 
-run-command-requires : tie.Need-run-command-requires
-run-command-requires c κs =
+run-step-requires : tie.Need-run-step-requires
+run-step-requires c κs =
     let r = c .before .before .before .before .before .before in
     let s = r .before .before .before .before .before in
     let fits = r .read-at .ensures .1 in (
@@ -76,9 +76,9 @@ returns c =
     let done = c .before .before .before .before .before .before in
     let r = done .before .before .before .before .before .before .before in
     let s = r .before .before .before .before .before in
-    told (s .args .script .now) (s .args .domain) (s .args .at) (s .args .before) (done .run-command .result)
+    told (s .args .script .now) (s .args .domain) (s .args .at) (s .args .before) (done .run-step .result)
     (lent (s .args .table .now) (s .args .files .now) (s .args .journal .now)) _ (r .read-at .result) _ (r .read-at .ensures .0)
-    (data-part (s .args .script .now) (r .read-at .result .from) (r .read-at .result .count)) (done .run-command .ensures)
+    (data-part (s .args .script .now) (r .read-at .result .from) (r .read-at .result .count)) (done .run-step .ensures)
 
 pub step-at-spec : {M : Type 1} → statement M
 step-at-spec =
@@ -86,10 +86,10 @@ step-at-spec =
     (tie.spec
     read-at-requires
     add-end
-    sub-run-command
-    part-run-command-start
-    part-run-command-end
-    run-command-requires
+    sub-run-step
+    part-run-step-start
+    part-run-step-end
+    run-step-requires
     same-length
     same-length-2
     same-length-3

@@ -44,15 +44,15 @@ loop-holds c =
           (λ i. record { session = c .start .ensures i; outcome = Well 0x9000; count = 0 }),
     )
 
-item-at-requires : tie.Need-item-at-requires Inv-loop μ-loop
-item-at-requires c κs = (c .loop .inv .4 .inside, c .before .before .before .before .before .before .before .pre .1)
+next-item-requires : tie.Need-next-item-requires Inv-loop μ-loop
+next-item-requires c κs = (c .loop .inv .4 .inside, c .before .before .before .before .before .before .before .pre .1)
 
 enum-known-from : tie.Need-enum-known-from Inv-loop μ-loop
 enum-known-from c = search needs
 
 capdu-requires : tie.Need-capdu-requires Inv-loop μ-loop
 capdu-requires c κs =
-    let i = c .before .before .before .item-at in
+    let i = c .before .before .before .next-item in
     let k = c .before .from .given in
     omega (arith, capdu-lies (c .before .before .before .before .loop .place) (c .before .before .before .before .before .before .before .before .before .before .before .args .end) (k .0 .0) (k .0 .1 .0) (i .ensures .1) (k .1) .1, c .before .before .before .before .before .before .before .before .before .before .before .pre .1)
 
@@ -62,7 +62,7 @@ step-capdu-requires c κs =
     let l = c .before .before .before .before .before .before .before .before .before .loop in
     let g = l .inv .4 in
     let k = c .before .before .before .before .before .before .from .given in
-    let h = capdu-lies (l .place) (s .args .end) (k .0 .0) (k .0 .1 .0) (c .before .before .before .before .before .before .before .before .item-at .ensures .1) (k .1) in (
+    let h = capdu-lies (l .place) (s .args .end) (k .0 .0) (k .0 .1 .0) (c .before .before .before .before .before .before .before .before .next-item .ensures .1) (k .1) in (
       omega (arith, ap length (c .before .before .before .before .capdu .ensures), part-length (s .args .script .now) (k .0 .0) (k .0 .1 .0) (omega (arith, h .1, s .pre .1)), h .2),
       g .holds .sound,
       g .holds .good,
@@ -93,7 +93,7 @@ returns : tie.Need-returns Inv-loop μ-loop
 returns c =
     let s = c .before .before .before .before .before .before .before .before .before .before .before .before .before .before .before .before .before .before .before .before .before .before .before .before .before .before .before .before .before in
     let l = c .before .before .before .before .before .before .before .before .before .before .before .before .before .before .before .before .before .before .before .before .before .before .loop in
-    let i = c .before .before .before .before .before .before .before .before .before .before .before .before .before .before .before .before .before .before .before .before .before .item-at in
+    let i = c .before .before .before .before .before .before .before .before .before .before .before .before .before .before .before .before .before .before .before .before .before .next-item in
     let k = c .before .before .before .before .before .before .before .before .before .before .before .before .before .before .before .before .before .before .before .from .given in
     let done = c .before .before .before .before .before .before .before .before .before .before .before .before .step-capdu in
     let d = stops (s .args .script .now) (s .args .definite) (s .args .at) (s .args .end) (s .args .application) (s .args .domain) (lent (s .args .table .now) (s .args .files .now) (s .args .journal .now)) (lent (l .table) (l .files) (l .journal)) (l .out) (l .g) (l .place) (l .inv .4)
@@ -106,19 +106,19 @@ add-place : tie.Need-add-place Inv-loop μ-loop
 add-place c =
     let s = c .before .before .before .before .before .before .before .before .before .before .before .before .before .before .before .before .before .before .before .before .before .before .before .before .before .before .before .before .before in
     let k = c .before .before .before .before .before .before .before .before .before .before .before .before .before .before .before .before .before .before .before .from .given in
-    omega (arith, capdu-lies (c .before .before .before .before .before .before .before .before .before .before .before .before .before .before .before .before .before .before .before .before .before .before .loop .place) (s .args .end) (k .0 .0) (k .0 .1 .0) (c .before .before .before .before .before .before .before .before .before .before .before .before .before .before .before .before .before .before .before .before .before .item-at .ensures .1) (k .1) .1, s .pre .1, s .pre .2)
+    omega (arith, capdu-lies (c .before .before .before .before .before .before .before .before .before .before .before .before .before .before .before .before .before .before .before .before .before .before .loop .place) (s .args .end) (k .0 .0) (k .0 .1 .0) (c .before .before .before .before .before .before .before .before .before .before .before .before .before .before .before .before .before .before .before .before .before .next-item .ensures .1) (k .1) .1, s .pre .1, s .pre .2)
 
 loop-less : tie.Need-loop-less Inv-loop μ-loop
 loop-less c =
     let k = c .before .before .before .before .before .before .before .before .before .before .before .before .before .before .before .before .before .before .before .from .given in
-    let h = capdu-lies (c .before .before .before .before .before .before .before .before .before .before .before .before .before .before .before .before .before .before .before .before .before .before .loop .place) (c .before .before .before .before .before .before .before .before .before .before .before .before .before .before .before .before .before .before .before .before .before .before .before .before .before .before .before .before .before .args .end) (k .0 .0) (k .0 .1 .0) (c .before .before .before .before .before .before .before .before .before .before .before .before .before .before .before .before .before .before .before .before .before .item-at .ensures .1) (k .1) in
+    let h = capdu-lies (c .before .before .before .before .before .before .before .before .before .before .before .before .before .before .before .before .before .before .before .before .before .before .loop .place) (c .before .before .before .before .before .before .before .before .before .before .before .before .before .before .before .before .before .before .before .before .before .before .before .before .before .before .before .before .before .args .end) (k .0 .0) (k .0 .1 .0) (c .before .before .before .before .before .before .before .before .before .before .before .before .before .before .before .before .before .before .before .before .before .next-item .ensures .1) (k .1) in
     omega (arith, h .0, h .1)
 
 loop-again : tie.Need-loop-again Inv-loop μ-loop
 loop-again c =
     let s = c .before .before .before .before .before .before .before .before .before .before .before .before .before .before .before .before .before .before .before .before .before .before .before .before .before .before .before .before .before in
     let l = c .before .before .before .before .before .before .before .before .before .before .before .before .before .before .before .before .before .before .before .before .before .before .loop in
-    let i = c .before .before .before .before .before .before .before .before .before .before .before .before .before .before .before .before .before .before .before .before .before .item-at in
+    let i = c .before .before .before .before .before .before .before .before .before .before .before .before .before .before .before .before .before .before .before .before .before .next-item in
     let k = c .before .before .before .before .before .before .before .before .before .before .before .before .before .before .before .before .before .before .before .from .given in
     let done = c .before .before .before .before .before .before .before .before .before .before .before .before .step-capdu in
     let on = sym (ap goesOn (c .before .before .word-of .ensures)) ∙ sym (c .before .goes-on .ensures) ∙ not-false (c .before .goes-on .result) (c .if1 .left) in (
@@ -141,7 +141,7 @@ step-bad-requires c κs =
     let l = c .before .before .before .before .before .loop in
     let g = l .inv .4 in
     let k = c .before .before .code .given in
-    (bad-lies (l .place) (s .args .end) (k .0 .0) (c .before .before .before .before .item-at .ensures .1) (k .1) .1, omega (arith, g .counted, g .inside, s .pre .1, s .pre .2), g .kept, l .inv .0 ∙ s .pre .7)
+    (bad-lies (l .place) (s .args .end) (k .0 .0) (c .before .before .before .before .next-item .ensures .1) (k .1) .1, omega (arith, g .counted, g .inside, s .pre .1, s .pre .2), g .kept, l .inv .0 ∙ s .pre .7)
 
 same-length-5 : tie.Need-same-length-5 Inv-loop μ-loop
 same-length-5 c = omega arith
@@ -159,7 +159,7 @@ returns-2 : tie.Need-returns-2 Inv-loop μ-loop
 returns-2 c =
     let s = c .before .before .before .before .before .before .before .before .before .before .before .before .before .before .before in
     let l = c .before .before .before .before .before .before .before .before .loop in
-    let i = c .before .before .before .before .before .before .before .item-at in
+    let i = c .before .before .before .before .before .before .before .next-item in
     let k = c .before .before .before .before .before .code .given in
     let done = c .before .before .step-bad in
     let d = breaks (s .args .script .now) (s .args .definite) (s .args .at) (s .args .end) (s .args .application) (s .args .domain) (lent (s .args .table .now) (s .args .files .now) (s .args .journal .now)) (lent (l .table) (l .files) (l .journal)) (l .out) (l .g) (l .place) (l .inv .4)
@@ -185,7 +185,7 @@ returns-3 : tie.Need-returns-3 Inv-loop μ-loop
 returns-3 c =
     let s = c .before .before .before .before .before .before .before .before .before .before in
     let l = c .before .before .before .loop in
-    let i = c .before .before .item-at in
+    let i = c .before .before .next-item in
     let d = ends (s .args .script .now) (s .args .definite) (s .args .at) (s .args .end) (s .args .application) (s .args .domain) (lent (s .args .table .now) (s .args .files .now) (s .args .journal .now)) (lent (l .table) (l .files) (l .journal)) (l .out) (l .g) (l .place) (l .inv .4)
     (i .result) (i .ensures .0) (i .ensures .1) (c .enum-told .given .1) in
     (d .0, d .1, omega (arith, d .2, s .pre .1, s .pre .2))
@@ -198,7 +198,7 @@ run-spec =
     μ-loop
     start-requires
     loop-holds
-    item-at-requires
+    next-item-requires
     enum-known-from
     capdu-requires
     step-capdu-requires

@@ -1,0 +1,85 @@
+-- `cases::line::put_run` meets its contract: what the run gives is what is put. Assumes nothing.
+use mathlib.Core.Path.{sym, ap, _∙_}
+use lib.ListN.{length}
+use lib.Seq.{length-take-le}
+use Rattle.octets.specs.Bytes.{overwrite}
+use Rattle.lines.proofs.Answers.{answer-fits}
+use Rattle.cases.proofs.Ran.{ran, run-line}
+use borrow.Author.Needs.{needs}
+use native.Mathlib.Omega.{arith}
+use Rattle.cases.proofs.line.put_run.Statement.{statement}
+use Rattle.cases.proofs.line.put_run.Tie as tie
+
+worked-table-requires : tie.Need-worked-table-requires
+worked-table-requires c κs = search needs
+
+worked-files-requires : tie.Need-worked-files-requires
+worked-files-requires c κs = search needs
+
+slice-aggregate-run : tie.Need-slice-aggregate-run
+slice-aggregate-run c = search needs
+
+slice-aggregate-run-2 : tie.Need-slice-aggregate-run-2
+slice-aggregate-run-2 c = search needs
+
+slice-aggregate-run-3 : tie.Need-slice-aggregate-run-3
+slice-aggregate-run-3 c = search needs
+
+run-requires : tie.Need-run-requires
+run-requires c κs = search needs
+
+in-use-requires : tie.Need-in-use-requires
+in-use-requires c κs = search needs
+
+array-share-prefix-response : tie.Need-array-share-prefix-response
+array-share-prefix-response c = answer-fits _ _ _ (c .before .before .before .before .before .before .before .before .run .ensures .0)
+
+slice-aggregate-put-labelled : tie.Need-slice-aggregate-put-labelled
+slice-aggregate-put-labelled c = sym (length-take-le _ _ (answer-fits _ _ _ (c .before .before .before .before .before .before .before .before .before .run .ensures .0)))
+
+slice-reshare-prefix-put-labelled : tie.Need-slice-reshare-prefix-put-labelled
+slice-reshare-prefix-put-labelled c = search needs
+
+slice-aggregate-put-labelled-2 : tie.Need-slice-aggregate-put-labelled-2
+slice-aggregate-put-labelled-2 c = sym (length-take-le _ _ (c .before .before .before .in-use .ensures .1))
+
+put-labelled-requires : tie.Need-put-labelled-requires
+put-labelled-requires c κs =
+    let h = answer-fits _ _ _ (c .before .before .before .before .before .before .before .before .before .before .run .ensures .0) in
+    let l = length-take-le (c .before .before .before .before .before .before .before .before .before .before .run .result .length) (c .before .before .before .before .before .before .before .before .before .before .run .last .1 .1 .1 .1 .0) h in
+    let k = length-take-le (c .before .before .before .in-use .result) (c .before .before .before .before .before .before .before .before .before .before .run .last .1 .1 .1 .1 .1 .1 .1 .0) (c .before .before .before .in-use .ensures .1) in
+    (omega arith, omega arith, omega arith, omega arith)
+
+same-length : tie.Need-same-length
+same-length c = search needs
+
+same-length-2 : tie.Need-same-length-2
+same-length-2 c = search needs
+
+returns : tie.Need-returns
+returns c =
+    let a = c .before .before .before .before .before .before .before .before .before .before .before .before .before .before .before .before .before .before .before .before .before .before .before .before .args in
+    let e = ran (a .application) (a .domain) (a .format) (a .script .now) _ _ (a .journal .now) _ (c .before .before .before .before .before .before .before .before .before .before .before .before .before .before .before .before .before .before .before .worked-table .ensures .0) (c .before .before .before .before .before .before .before .before .before .before .before .before .before .before .before .before .before .before .worked-files .ensures .0) (c .before .before .before .before .before .before .before .before .before .before .before .before .before .run .ensures .0) in
+    let l = run-line (a .label .now) _ _ _ e (c .before .before .before .before .before .before .in-use .ensures .0) in
+    let p = c .before .before .put-labelled .ensures in
+    (p .0 ∙ ap (overwrite (a .out .now) 0) l, p .1 ∙ ap length l, p .2)
+
+pub put-run-spec : {M : Type 1} → statement M
+put-run-spec =
+    tie.close
+    (tie.spec
+    worked-table-requires
+    worked-files-requires
+    slice-aggregate-run
+    slice-aggregate-run-2
+    slice-aggregate-run-3
+    run-requires
+    in-use-requires
+    array-share-prefix-response
+    slice-aggregate-put-labelled
+    slice-reshare-prefix-put-labelled
+    slice-aggregate-put-labelled-2
+    put-labelled-requires
+    same-length
+    same-length-2
+    returns)

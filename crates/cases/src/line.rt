@@ -1,0 +1,110 @@
+// The line of a case.
+use lines::digits::decode;
+use lines::put::put_bytes;
+use lines::put::put_number;
+use lines::worked::worked_files;
+use lines::worked::worked_table;
+ghost use mathlib.Core.Path.{_≡_};
+ghost use mathlib.Core.Bool.{true};
+ghost use Prim.Native.Nat.{_+_, _≤_, min};
+ghost use lib.ListN.{length};
+ghost use Rattle.octets.specs.Bytes.{overwrite};
+ghost use Rattle.journal.specs.Entries.{usedBytes};
+ghost use Rattle.cases.specs.Cases as spec;
+
+// Puts a label and four values at the start of `out`, and gives the number of bytes.
+fn put_labelled(
+    out: &mut [u8],
+    label: &[u8],
+    refusal: usize,
+    executed: usize,
+    response: &[u8],
+    journal: &[u8],
+) -> usize
+    requires { ⌜ (spec.mostInLine ≤ length (now out)) × (length (now label) ≤ 64) × (length (now response) ≤ 1024) × (length (now journal) ≤ 2048) ⌝ }
+    ensures { λ r. ⌜ (now (out .exit) ≡ overwrite (now (out .entry)) 0 (spec.labelled (now (label .entry)) refusal executed (now (response .entry)) (now (journal .entry)))) × (r ≡ length (spec.labelled (now (label .entry)) refusal executed (now (response .entry)) (now (journal .entry)))) × (r ≤ spec.mostInLine) ⌝ }
+{
+    octets::copy(out, 0, label);
+    let second = put_number(out, label.len(), b": refusal=", refusal, b' ');
+    let third = put_number(out, second, b"executed=", executed, b' ');
+    let fourth = put_bytes(out, third, b"response=", response, b' ');
+    put_bytes(out, fourth, b"journal=", journal, b'\n')
+}
+
+// The number of a journal's bytes in its head and its entries, and of all its bytes where that is more.
+fn in_use(journal: &[u8]) -> usize
+    requires { ⌜ 4 ≤ length (now journal) ⌝ }
+    ensures { λ r. ⌜ (r ≡ min (4 + usedBytes (now (journal .entry))) (length (now (journal .entry)))) × (r ≤ length (now (journal .entry))) ⌝ }
+{
+    let n = 4 + journal::read::used_bytes(journal);
+    if journal.len() < n {
+        return journal.len();
+    }
+    n
+}
+
+// Runs a script on the worked card with another journal, puts the run's line at the start of `out`, and gives the number of bytes.
+fn put_run(
+    out: &mut [u8],
+    label: &[u8],
+    application: usize,
+    domain: u8,
+    format: u8,
+    journal: &mut [u8],
+    script: &[u8],
+) -> usize
+    requires { ⌜ (spec.mostInLine ≤ length (now out)) × (length (now label) ≤ 64) × (length (now journal) ≡ 2048) ⌝ }
+    ensures { λ r. ⌜ (now (out .exit) ≡ overwrite (now (out .entry)) 0 (spec.runLine (now (label .entry)) (spec.ranOn application domain format (now (journal .entry)) (now (script .entry))))) × (r ≡ length (spec.runLine (now (label .entry)) (spec.ranOn application domain format (now (journal .entry)) (now (script .entry))))) × (r ≤ spec.mostInLine) ⌝ }
+{
+    let mut table = worked_table();
+    let mut files = worked_files();
+    let mut response = [0u8; 1024];
+    let answer = engine::run(
+        application,
+        domain,
+        format,
+        script,
+        &mut response,
+        &mut table,
+        &mut files,
+        journal,
+    );
+    let n = answer.length;
+    let k = in_use(journal);
+    put_labelled(
+        out,
+        label,
+        answer.number,
+        answer.count,
+        &response[..n],
+        &journal[..k],
+    )
+}
+
+// Puts the line of a case at the start of `out`, and gives the number of bytes.
+pub fn put_case(
+    out: &mut [u8],
+    label: &[u8],
+    application: usize,
+    domain: u8,
+    format: u8,
+    journal: &[u8],
+    script: &[u8],
+) -> usize
+    requires { ⌜ (spec.mostInLine ≤ length (now out)) × (spec.isCase (now label) (now journal) (now script) ≡ true) ⌝ }
+    ensures { λ r. ⌜ (now (out .exit) ≡ overwrite (now (out .entry)) 0 (spec.caseLine (now (label .entry)) application domain format (now (journal .entry)) (now (script .entry)))) × (r ≡ length (spec.caseLine (now (label .entry)) application domain format (now (journal .entry)) (now (script .entry)))) × (r ≤ spec.mostInLine) ⌝ }
+{
+    let mut journal_bytes = [0u8; 2048];
+    decode(journal, &mut journal_bytes);
+    let mut script_bytes = [0u8; 1024];
+    let n = decode(script, &mut script_bytes);
+    put_run(
+        out,
+        label,
+        application,
+        domain,
+        format,
+        &mut journal_bytes,
+        &script_bytes[..n],
+    )
+}

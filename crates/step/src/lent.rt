@@ -1,0 +1,90 @@
+// A session that is lent to a command: its directory, file, record number and waiting bytes move on.
+use crate::run_command;
+use command::Command;
+use command::Format;
+use command::Outcome;
+use command::Step;
+use session::Session;
+ghost use mathlib.Core.Path.{_≡_};
+ghost use Prim.Native.Nat.{_+_, _<_};
+ghost use lib.ListN.{length};
+ghost use Rattle.card.specs.Row.{lent};
+ghost use Rattle.command.specs.Commands.{stateOf, situation, planned, carriedOut, stepped};
+ghost use Rattle.step.specs.Decisions.{Ready, movedTo};
+
+// How a command ended, and how many there were with it.
+pub struct Ended {
+    outcome: Outcome,
+    count: usize,
+}
+
+// One command on a card, with its data, after `count` others: the lent session moves on.
+fn step(
+    session: &mut Session,
+    format: Format,
+    domain: usize,
+    c: Command,
+    data: &[u8],
+    count: usize,
+    table: &mut [u8],
+    files: &mut [u8],
+    journal: &mut [u8],
+) -> Ended
+    requires { ⌜ Ready (lent (now table) (now files) (now journal)) (now session) c (length (now «data»)) × (count < 65535) ⌝ }
+    ensures { λ r. ⌜ (movedTo (now (session .exit)) (r .outcome) (lent (now (table .exit)) (now (files .exit)) (now (journal .exit)))
+        ≡ carriedOut (planned (situation format domain c (now («data» .entry)) (now (session .entry)) (lent (now (table .entry)) (now (files .entry)) (now (journal .entry))))) (lent (now (table .entry)) (now (files .entry)) (now (journal .entry))))
+        × (r .count ≡ count + 1) ⌝ }
+{
+    let after = run_command(
+        format,
+        domain,
+        c,
+        data,
+        *session,
+        count,
+        table,
+        files,
+        journal,
+    );
+    *session = after.session;
+    Ended {
+        outcome: after.outcome,
+        count: after.count,
+    }
+}
+
+// One command on a card, with its data: the script's step after it.
+pub fn run_step(
+    format: Format,
+    domain: usize,
+    c: Command,
+    data: &[u8],
+    before: Step,
+    table: &mut [u8],
+    files: &mut [u8],
+    journal: &mut [u8],
+) -> Step
+    requires { ⌜ Ready (lent (now table) (now files) (now journal)) (before .session) c (length (now «data»)) × (before .count < 65535) ⌝ }
+    ensures { λ r. ⌜ stateOf r (lent (now (table .exit)) (now (files .exit)) (now (journal .exit)))
+        ≡ stepped (stateOf before (lent (now (table .entry)) (now (files .entry)) (now (journal .entry))))
+        (carriedOut (planned (situation format domain c (now («data» .entry)) (before .session) (lent (now (table .entry)) (now (files .entry)) (now (journal .entry)))))
+        (lent (now (table .entry)) (now (files .entry)) (now (journal .entry)))) ⌝ }
+{
+    let mut session = before.session;
+    let ended = step(
+        &mut session,
+        format,
+        domain,
+        c,
+        data,
+        before.count,
+        table,
+        files,
+        journal,
+    );
+    Step {
+        session,
+        outcome: ended.outcome,
+        count: ended.count,
+    }
+}
