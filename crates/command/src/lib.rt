@@ -2,6 +2,7 @@
 pub mod checks;
 pub mod ends;
 pub mod instruction;
+pub mod reader;
 pub mod records;
 pub mod search;
 pub mod sum;

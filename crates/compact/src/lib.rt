@@ -1,4 +1,5 @@
 // Compact scripts.
 pub mod answer;
 pub mod read;
+pub mod reader;
 pub mod run;

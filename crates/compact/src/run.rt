@@ -1,5 +1,5 @@
 // Running a compact script.
-use crate::read::read_at;
+use crate::reader::next_reading;
 use command::Format;
 use command::Outcome;
 use command::Step;
@@ -30,7 +30,7 @@ fn step_at(
     requires { ⌜ (at < length (now script)) × (soundCard (lent (now table) (now files) (now journal)) ≡ true) × Good (now table) (before .session) × (before .count < 65535) ⌝ }
     ensures { λ r. ⌜ stateOf r (lent (now (table .exit)) (now (files .exit)) (now (journal .exit))) ≡ spec.stepAt (now (script .entry)) domain at (stateOf before (lent (now (table .entry)) (now (files .entry)) (now (journal .entry)))) ⌝ }
 {
-    let r = read_at(script, at);
+    let r = next_reading(script, at);
     let from = r.from;
     let end = from + r.count;
     let c = r.command;
@@ -65,7 +65,7 @@ pub fn run(
     };
     let mut at: usize = 0;
     while at < script.len() {
-        let r = read_at(script, at);
+        let r = next_reading(script, at);
         step = step_at(script, domain, at, step, table, files, journal);
         let outcome = step.outcome;
         if !goes_on(word_of(outcome)) {

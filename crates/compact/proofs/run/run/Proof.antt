@@ -40,8 +40,8 @@ loop-holds c =
           (s .pre .0) (s .pre .1) (s .pre .2) (s .pre .3),
     )
 
-read-at-requires : tie.Need-read-at-requires Inv-loop μ-loop
-read-at-requires c κs = omega arith
+next-reading-requires : tie.Need-next-reading-requires Inv-loop μ-loop
+next-reading-requires c κs = omega arith
 
 step-at-requires : tie.Need-step-at-requires Inv-loop μ-loop
 step-at-requires c κs =
@@ -76,14 +76,14 @@ returns c =
 add-at : tie.Need-add-at Inv-loop μ-loop
 unfolding placeAfter
 add-at c =
-    let inside = c .before .before .before .before .before .before .before .before .before .before .before .before .before .before .read-at .ensures .1 .inside in
+    let inside = c .before .before .before .before .before .before .before .before .before .before .before .before .before .before .next-reading .ensures .1 .inside in
     let short = c .before .before .before .before .before .before .before .before .before .before .before .before .before .before .before .before .before .before .before .before .before .before .pre .4 in
     omega arith
 
 loop-less : tie.Need-loop-less Inv-loop μ-loop
 unfolding placeAfter
 loop-less c =
-    let fits = c .before .before .before .before .before .before .before .before .before .before .before .before .before .before .read-at .ensures .1 in
+    let fits = c .before .before .before .before .before .before .before .before .before .before .before .before .before .before .next-reading .ensures .1 in
     let inside = fits .inside in
     let further = fits .further in
     omega arith
@@ -92,7 +92,7 @@ loop-again : tie.Need-loop-again Inv-loop μ-loop
 loop-again c =
     let s = c .before .before .before .before .before .before .before .before .before .before .before .before .before .before .before .before .before .before .before .before .before .before in
     let l = c .before .before .before .before .before .before .before .before .before .before .before .before .before .before .before .before .loop in
-    let r = c .before .before .before .before .before .before .before .before .before .before .before .before .before .before .read-at in
+    let r = c .before .before .before .before .before .before .before .before .before .before .before .before .before .before .next-reading in
     let script = s .args .script .now in (
       omega arith,
       omega arith,
@@ -125,7 +125,7 @@ run-spec =
     μ-loop
     start-requires
     loop-holds
-    read-at-requires
+    next-reading-requires
     step-at-requires
     word-of-requires
     goes-on-requires

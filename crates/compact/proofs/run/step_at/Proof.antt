@@ -29,12 +29,12 @@ told script domain at before r card after reading «data» hr hd e =
 data-part : (script : List ℕ) (from n : ℕ) → take (from + n - from) (drop from script) ≡ part script from n
 data-part script from n = ap (λ (k : ℕ). take k (drop from script)) (add-sub-cancel-left from n)
 
-read-at-requires : tie.Need-read-at-requires
-read-at-requires c κs = search needs
+next-reading-requires : tie.Need-next-reading-requires
+next-reading-requires c κs = search needs
 
 add-end : tie.Need-add-end
 unfolding placeAfter
-add-end c = let inside = c .before .read-at .ensures .1 .inside in omega arith
+add-end c = let inside = c .before .next-reading .ensures .1 .inside in omega arith
 
 sub-run-step : tie.Need-sub-run-step
 sub-run-step c = search needs
@@ -44,20 +44,20 @@ part-run-step-start c = search needs
 
 part-run-step-end : tie.Need-part-run-step-end
 unfolding placeAfter
-part-run-step-end c = let inside = c .before .before .read-at .ensures .1 .inside in omega arith
+part-run-step-end c = let inside = c .before .before .next-reading .ensures .1 .inside in omega arith
 
 run-step-requires : tie.Need-run-step-requires
 run-step-requires c κs =
     let r = c .before .before .before .before .before .before in
     let s = r .before .before .before .before .before in
-    let fits = r .read-at .ensures .1 in (
+    let fits = r .next-reading .ensures .1 in (
       record {
         sound = s .pre .1;
         good = s .pre .2;
         p1 = fits .p1;
         p2 = fits .p2;
         p3 = fits .p3;
-        brief = rw (data-part (s .args .script .now) (r .read-at .result .from) (r .read-at .result .count), length-take) (let b = fits .brief in omega arith);
+        brief = rw (data-part (s .args .script .now) (r .next-reading .result .from) (r .next-reading .result .count), length-take) (let b = fits .brief in omega arith);
       },
       s .pre .3,
     )
@@ -77,14 +77,14 @@ returns c =
     let r = done .before .before .before .before .before .before .before in
     let s = r .before .before .before .before .before in
     told (s .args .script .now) (s .args .domain) (s .args .at) (s .args .before) (done .run-step .result)
-    (lent (s .args .table .now) (s .args .files .now) (s .args .journal .now)) _ (r .read-at .result) _ (r .read-at .ensures .0)
-    (data-part (s .args .script .now) (r .read-at .result .from) (r .read-at .result .count)) (done .run-step .ensures)
+    (lent (s .args .table .now) (s .args .files .now) (s .args .journal .now)) _ (r .next-reading .result) _ (r .next-reading .ensures .0)
+    (data-part (s .args .script .now) (r .next-reading .result .from) (r .next-reading .result .count)) (done .run-step .ensures)
 
 pub step-at-spec : {M : Type 1} → statement M
 step-at-spec =
     tie.close
     (tie.spec
-    read-at-requires
+    next-reading-requires
     add-end
     sub-run-step
     part-run-step-start

@@ -44,10 +44,10 @@ use denote.Triple.Walked.{says, needs, Stays, stay-none, walkOf, goes-none, Walk
 use denote.Exit.{yes}
 use denote.Triple.Clauses.{ensured, lasts}
 use Rattle.expanded.specs.Templates.{itemAt, ItemFits}
-use Rattle.expanded.specs.declared.reader.Reader.{Reader}
+use Rattle.command.specs.declared.reader.Reader.{Reader}
 use Rattle.expanded.specs.declared.template.Item.{Item}
-use Rattle.expanded.proofs.reader.Reader as T
-use Rattle.expanded.proofs.reader.Reader.Laws as T′
+use Rattle.command.proofs.reader.Reader as T
+use Rattle.command.proofs.reader.Reader.Laws as T′
 use Rattle.expanded.proofs.template.Item as S
 use Rattle.expanded.proofs.template.Item.Laws as S′
 use Rattle.expanded.proofs.template.item_at as at

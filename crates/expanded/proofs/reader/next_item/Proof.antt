@@ -39,20 +39,20 @@ use denote.Triple.Walked.{says, needs, Stays, stay-none, stay-none-slice, walkOf
 use denote.Exit.{yes}
 use denote.Triple.Clauses.{ensured, lasts}
 use Rattle.expanded.specs.Templates.{itemAt, ItemFits}
-use Rattle.expanded.specs.declared.reader.Reader.{Reader}
+use Rattle.command.specs.declared.reader.Reader.{Reader}
 use Rattle.expanded.specs.declared.template.Item.{Item}
-use Rattle.expanded.proofs.reader.Reader as T
-use Rattle.expanded.proofs.reader.Reader.Laws as T′
+use Rattle.command.proofs.reader.Reader as T
+use Rattle.command.proofs.reader.Reader.Laws as T′
 use Rattle.expanded.proofs.template.Item as S
 use Rattle.expanded.proofs.template.Item.Laws as S′
-use Rattle.expanded.proofs.reader.at_front as front
-use Rattle.expanded.proofs.reader.at_front.Symbol as front-def
-use Rattle.expanded.proofs.reader.at_front.Symbol.{name as #at-front}
-use Rattle.expanded.proofs.reader.at_front.Met as front-thm
-use Rattle.expanded.proofs.reader.moved_on as moved
-use Rattle.expanded.proofs.reader.moved_on.Symbol as moved-def
-use Rattle.expanded.proofs.reader.moved_on.Symbol.{name as #moved-on}
-use Rattle.expanded.proofs.reader.moved_on.Met as moved-thm
+use Rattle.command.proofs.reader.at_front as front
+use Rattle.command.proofs.reader.at_front.Symbol as front-def
+use Rattle.command.proofs.reader.at_front.Symbol.{name as #at-front}
+use Rattle.command.proofs.reader.at_front.Met as front-thm
+use Rattle.command.proofs.reader.moved_on as moved
+use Rattle.command.proofs.reader.moved_on.Symbol as moved-def
+use Rattle.command.proofs.reader.moved_on.Symbol.{name as #moved-on}
+use Rattle.command.proofs.reader.moved_on.Met as moved-thm
 use Rattle.expanded.proofs.reader.item_of as item
 use Rattle.expanded.proofs.reader.item_of.Symbol as item-def
 use Rattle.expanded.proofs.reader.item_of.Symbol.{name as #item-of}
@@ -198,6 +198,6 @@ next-item-spec 𝓤 H 𝓜 𝓖 𝓡 =
     entered 𝓤 H (tripleOf 𝓤 H (𝓖 .A) next.signature (next.spec 𝓤 H (𝓖 .A) (𝓜 .mem) (𝓡 .run)))
     (tables 𝓤 H 𝓜 𝓡 code.env .C) (tables 𝓤 H 𝓜 𝓡 code.env .Λ) #next-item code.function (code.unfolded 𝓤 H 𝓜 𝓡)
     (next-meets 𝓤 H (𝓖 .A) (givenOf 𝓤 H 𝓜 𝓖) (𝓜 .mem) (𝓡 .run) (tablesOf 𝓤 H 𝓜 (tables 𝓤 H 𝓜 𝓡 code.env))
-    (cited 𝓤 H (AtFront 𝓤 H (𝓖 .A) (𝓜 .mem) (𝓡 .run)) 𝓜 𝓡 code.env #at-front front-def.routine code.calls-expanded·reader·at-front (front-thm.met 𝓤 H 𝓜 𝓖 𝓡))
-    (cited 𝓤 H (MovedOn 𝓤 H (𝓖 .A) (𝓜 .mem) (𝓡 .run)) 𝓜 𝓡 code.env #moved-on moved-def.routine code.calls-expanded·reader·moved-on (moved-thm.met 𝓤 H 𝓜 𝓖 𝓡))
+    (cited 𝓤 H (AtFront 𝓤 H (𝓖 .A) (𝓜 .mem) (𝓡 .run)) 𝓜 𝓡 code.env #at-front front-def.routine code.calls-command·reader·at-front (front-thm.met 𝓤 H 𝓜 𝓖 𝓡))
+    (cited 𝓤 H (MovedOn 𝓤 H (𝓖 .A) (𝓜 .mem) (𝓡 .run)) 𝓜 𝓡 code.env #moved-on moved-def.routine code.calls-command·reader·moved-on (moved-thm.met 𝓤 H 𝓜 𝓖 𝓡))
     (cited 𝓤 H (ItemOf 𝓤 H (𝓖 .A) (𝓜 .mem) (𝓡 .run)) 𝓜 𝓡 code.env #item-of item-def.routine code.calls-expanded·reader·item-of (item-thm.met 𝓤 H 𝓜 𝓖 𝓡)))

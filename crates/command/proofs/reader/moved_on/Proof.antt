@@ -34,13 +34,13 @@ use denote.Triple.Spec.{Meets, tripleOf}
 use denote.Triple.Table.{entered}
 use denote.Triple.Walked.{says, Stays, stay-none, walkOf, goes-none, Walks, ends-at, walked, walk-meets}
 use denote.Exit.{yes}
-use Rattle.expanded.specs.declared.reader.Reader.{Reader}
-use Rattle.expanded.proofs.reader.Reader as T
-use Rattle.expanded.proofs.reader.Reader.Laws as T′
-use Rattle.expanded.proofs.reader.moved_on.Key.{name as #moved-on}
-use Rattle.expanded.proofs.reader.moved_on as moved
-use Rattle.expanded.proofs.reader.moved_on.Statement as stated
-use Rattle.expanded.proofs.reader.moved_on.Code as code
+use Rattle.command.specs.declared.reader.Reader.{Reader}
+use Rattle.command.proofs.reader.Reader as T
+use Rattle.command.proofs.reader.Reader.Laws as T′
+use Rattle.command.proofs.reader.moved_on.Key.{name as #moved-on}
+use Rattle.command.proofs.reader.moved_on as moved
+use Rattle.command.proofs.reader.moved_on.Statement as stated
+use Rattle.command.proofs.reader.moved_on.Code as code
 
 -- the reader's type, over the signature's lifetimes
 abbrev B : Lfts 1 → RattleType

@@ -35,13 +35,13 @@ use denote.Triple.Spec.{Meets, tripleOf}
 use denote.Triple.Table.{entered}
 use denote.Triple.Walked.{says, Stays, stay-none-slice, walkOf, goes-none-slice, Walks, ends-at, walked, walk-meets}
 use denote.Exit.{yes}
-use Rattle.expanded.specs.declared.reader.Reader.{Reader}
-use Rattle.expanded.proofs.reader.Reader as T
-use Rattle.expanded.proofs.reader.Reader.Laws as T′
-use Rattle.expanded.proofs.reader.at_front.Key.{name as #at-front}
-use Rattle.expanded.proofs.reader.at_front as front
-use Rattle.expanded.proofs.reader.at_front.Statement as stated
-use Rattle.expanded.proofs.reader.at_front.Code as code
+use Rattle.command.specs.declared.reader.Reader.{Reader}
+use Rattle.command.proofs.reader.Reader as T
+use Rattle.command.proofs.reader.Reader.Laws as T′
+use Rattle.command.proofs.reader.at_front.Key.{name as #at-front}
+use Rattle.command.proofs.reader.at_front as front
+use Rattle.command.proofs.reader.at_front.Statement as stated
+use Rattle.command.proofs.reader.at_front.Code as code
 
 abbrev stayed : Stays (front.ended .signature .params) (front.ended .kept)
 stayed = (stay-none-slice (0 ∷ []) tt (plain (λ _. u8)) yes, tt)
