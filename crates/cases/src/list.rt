@@ -3,7 +3,7 @@ use crate::show;
 
 // The cases that the paper gives by their bytes.
 pub fn paper() {
-    // "Transparent 6F46": it has 17 bytes, so no two fit at offset 16, and 17 is not in it.
+    // "2 transparent 6F46 in 1, start 0, length 17": two bytes do not fit at 16, and 17 is behind the end.
     show(
         b"S 00D60010020141",
         0,
@@ -43,11 +43,11 @@ pub fn paper() {
     );
 }
 
-// Which journals are sound.
+// Which journals are sound, and the numbers 5 and 2.
 pub fn soundness() {
     // Decision 1: a journal entry's whole run lies inside its memory.
     show(
-        b"1 kind 2, place 54, n 2",
+        b"kind 2, place 54, n 2",
         0,
         0x00,
         0,
@@ -56,7 +56,7 @@ pub fn soundness() {
     );
     // Decision 2: an entry of kind 2 may lie anywhere in the file memory, here across two files.
     show(
-        b"2 kind 2, place 16, n 2",
+        b"kind 2, place 16, n 2",
         0,
         0x00,
         0,
@@ -65,7 +65,7 @@ pub fn soundness() {
     );
     // Decision 3: a place is an offset in its own memory.
     show(
-        b"3 INCREASE, its tails",
+        b"INCREASE, its tails",
         0,
         0x00,
         0,
@@ -74,7 +74,7 @@ pub fn soundness() {
     );
     // Decision 5: with U 0 there is no oldest entry, and byte 2 is 0.
     show(
-        b"5 U 0 and a script on trial",
+        b"U 0 and a script on trial",
         0,
         0x00,
         0,
@@ -83,7 +83,7 @@ pub fn soundness() {
     );
     // Decision 12: the numbers are tested in the order of the table, so 5 before 6.
     show(
-        b"9 sixteen scripts, no template",
+        b"sixteen scripts, no template",
         0,
         0x00,
         1,
@@ -91,21 +91,21 @@ pub fn soundness() {
         b"AA0000",
     );
     // Decision 13: application is a number that may be larger than a byte.
-    show(b"10 application 261", 261, 0x00, 0, b"", b"00A4000C027F10");
+    show(b"application 261", 261, 0x00, 0, b"", b"00A4000C027F10");
 }
 
 // What is a template, and the mark of an accepted run.
 pub fn templates() {
     // Decision 14: a length in its shortest form that runs exactly to the end, or `AE80 .. 0000`.
-    show(b"11 AA0000", 0, 0x00, 1, b"", b"AA0000");
-    show(b"11 AA0222", 0, 0x00, 1, b"", b"AA0222");
-    show(b"11 AE8000", 0, 0x00, 1, b"", b"AE8000");
-    show(b"11 AA810155", 0, 0x00, 1, b"", b"AA810155");
-    show(b"11 AA00", 0, 0x00, 1, b"", b"AA00");
-    show(b"11 AE800000", 0, 0x00, 1, b"", b"AE800000");
+    show(b"AA0000", 0, 0x00, 1, b"", b"AA0000");
+    show(b"AA0222", 0, 0x00, 1, b"", b"AA0222");
+    show(b"AE8000", 0, 0x00, 1, b"", b"AE8000");
+    show(b"AA810155", 0, 0x00, 1, b"", b"AA810155");
+    show(b"AA00", 0, 0x00, 1, b"", b"AA00");
+    show(b"AE800000", 0, 0x00, 1, b"", b"AE800000");
     // Decision 15: a run whose first command fails appends its mark too.
     show(
-        b"12 the first command fails",
+        b"the first command fails",
         0,
         0x00,
         0,
@@ -117,11 +117,11 @@ pub fn templates() {
 // Compact scripts.
 pub fn compact() {
     // Decision 18: whether a command carries data is decided by the instruction byte alone.
-    show(b"15 80A4000C027F", 0, 0x00, 0, b"", b"80A4000C027F");
-    show(b"15 002000010831", 0, 0x00, 0, b"", b"002000010831");
+    show(b"80A4000C027F", 0, 0x00, 0, b"", b"80A4000C027F");
+    show(b"002000010831", 0, 0x00, 0, b"", b"002000010831");
     // Decision 19: "bytes after it" is any byte at all.
     show(
-        b"16 S 00B0000003 00",
+        b"S 00B0000003 00",
         0,
         0x00,
         0,
@@ -129,10 +129,10 @@ pub fn compact() {
         b"00A4000C027F1000A4000C026F4600B000000300",
     );
     // Decision 20: Lc 0 comes before P1P2.
-    show(b"17 00A4FFFF00", 0, 0x00, 0, b"", b"00A4FFFF00");
+    show(b"00A4FFFF00", 0, 0x00, 0, b"", b"00A4FFFF00");
     // Decision 21: SELECT with FCP of a deactivated file keeps 6283 for GET RESPONSE.
     show(
-        b"18 FCP of a deactivated file",
+        b"FCP of a deactivated file",
         0,
         0x00,
         0,
@@ -141,7 +141,7 @@ pub fn compact() {
     );
     // Decision 22: every command but C0 drops what waits; C0 for fewer bytes gives the kept word.
     show(
-        b"19 a search that finds nothing drops what waits",
+        b"a search that finds nothing drops what waits",
         0,
         0x00,
         0,
@@ -149,7 +149,7 @@ pub fn compact() {
         b"00A4000C027F1000A40004026F3A00A20104015500C0000000",
     );
     show(
-        b"19 C0 with fewer bytes than wait",
+        b"C0 with fewer bytes than wait",
         0,
         0x00,
         0,
@@ -162,7 +162,7 @@ pub fn compact() {
 pub fn selects() {
     // Decision 25: a directory's own identifier matches as a DF child of its parent.
     show(
-        b"20 7F10 twice",
+        b"7F10 twice",
         0,
         0x00,
         0,
@@ -170,16 +170,9 @@ pub fn selects() {
         b"00A4000C027F1000A4000C027F10",
     );
     // Decision 26: a path never starts with the root's own identifier, and an ADF is no child.
+    show(b"P1 08, 3F00 7F10", 0, 0x00, 0, b"", b"00A4080C043F007F10");
     show(
-        b"21 P1 08, 3F00 7F10",
-        0,
-        0x00,
-        0,
-        b"",
-        b"00A4080C043F007F10",
-    );
-    show(
-        b"21 7FFF from shared files",
+        b"7FFF from shared files",
         0,
         0x00,
         0,
@@ -187,15 +180,15 @@ pub fn selects() {
         b"00A4000C027FFF",
     );
     // Decision 27: the data have two bytes for P1 00; another P1 is 6A86.
-    show(b"22 three bytes", 0, 0x00, 0, b"", b"00A4000C037F1000");
-    show(b"22 another P1", 0, 0x00, 0, b"", b"00A4010C027F10");
+    show(b"SELECT, three bytes", 0, 0x00, 0, b"", b"00A4000C037F1000");
+    show(b"SELECT, another P1", 0, 0x00, 0, b"", b"00A4010C027F10");
 }
 
 // Records: reading, updating and searching.
 pub fn records() {
     // Decision 30: "(P1 00)" holds for next and for previous.
     show(
-        b"24 next with P1 01",
+        b"B2 next, P1 01",
         0,
         0x00,
         0,
@@ -204,7 +197,7 @@ pub fn records() {
     );
     // Decision 31: an absolute reading does not move the record number.
     show(
-        b"25 an absolute reading leaves no current record",
+        b"an absolute reading leaves no current record",
         0,
         0x00,
         1,
@@ -213,7 +206,7 @@ pub fn records() {
     );
     // Decision 32: DC in mode 03 on a cyclic file writes the oldest place, whatever the record number.
     show(
-        b"26 DC mode 03 on a cyclic file",
+        b"DC mode 03 on a cyclic file",
         0,
         0x00,
         0,
@@ -222,7 +215,7 @@ pub fn records() {
     );
     // Decision 34: P1 above the count is 6A83.
     show(
-        b"28 A2 above the count",
+        b"A2 above the count",
         0,
         0x00,
         0,
@@ -231,7 +224,7 @@ pub fn records() {
     );
     // Decision 35: A2 gives numbers as the file counts records, forward and back.
     show(
-        b"29 forward",
+        b"A2 forward",
         0,
         0x00,
         0,
@@ -239,7 +232,7 @@ pub fn records() {
         b"00A4080C047F106F3A00A2010401FF00C0000000",
     );
     show(
-        b"29 back",
+        b"A2 back",
         0,
         0x00,
         0,
@@ -252,7 +245,7 @@ pub fn records() {
 pub fn changes() {
     // Decision 36: fewer data bytes than the record are added at the right end, and come back as sent.
     show(
-        b"30 8032000001 05",
+        b"8032000001 05",
         0,
         0x00,
         0,
@@ -260,7 +253,7 @@ pub fn changes() {
         b"00A4080C047F106F39803200000105",
     );
     show(
-        b"30 its data",
+        b"8032000001 05, its data",
         0,
         0x00,
         0,
@@ -268,32 +261,25 @@ pub fn changes() {
         b"00A4080C047F106F3980320000010500C0000000",
     );
     // Decision 38: with no current file 6986.
-    show(b"32 no current file", 0, 0x00, 0, b"", b"0004000000");
+    show(b"no current file", 0, 0x00, 0, b"", b"0004000000");
 }
 
 // The items of an expanded script, and where it ends.
 pub fn items() {
     // Decision 40: tag before length; too few bytes after 82 are 03, another length form is 02.
-    show(b"33 AA0155", 0, 0x00, 1, b"", b"AA0155");
-    show(b"33 82 00 and the end", 0, 0x00, 1, b"", b"AA03228200");
-    show(b"33 81 7F", 0, 0x00, 1, b"", b"AA0322817F");
+    show(b"AA0155", 0, 0x00, 1, b"", b"AA0155");
+    show(b"82 00 and the end", 0, 0x00, 1, b"", b"AA03228200");
+    show(b"81 7F", 0, 0x00, 1, b"", b"AA0322817F");
     // Decision 41: the end of an AE script is its last two bytes.
-    show(b"34 AE8000000000", 0, 0x00, 1, b"", b"AE8000000000");
+    show(b"AE8000000000", 0, 0x00, 1, b"", b"AE8000000000");
 }
 
 // The sizes of the commands in an expanded script.
 pub fn sizes() {
     // Decision 42: size 6 with Lc 00 and Le 00 is case 4; another Le makes a bad size.
+    show(b"Lc 00 and Le 00", 0, 0x00, 1, b"", b"AA08220600A400040000");
     show(
-        b"35 Lc 00 and Le 00",
-        0,
-        0x00,
-        1,
-        b"",
-        b"AA08220600A400040000",
-    );
-    show(
-        b"35 another Le",
+        b"case 4, another Le",
         0,
         0x00,
         1,
@@ -302,17 +288,24 @@ pub fn sizes() {
     );
     // Decision 43: SELECT with a P2 that is not 0C needs case 4; nothing ever waits for C0.
     show(
-        b"36 a bad P2 in case 3",
+        b"a bad P2 in case 3",
         0,
         0x00,
         1,
         b"",
         b"AA09220700A40000027F10",
     );
-    show(b"36 GET RESPONSE", 0, 0x00, 1, b"", b"AA07220500C0000000");
+    show(
+        b"GET RESPONSE, expanded",
+        0,
+        0x00,
+        1,
+        b"",
+        b"AA07220500C0000000",
+    );
     // Decision 46: a Bad format TLV leaves out the R-APDU of the case 3 command before it.
     show(
-        b"39 AA0B220700A4000C027F105500",
+        b"AA0B220700A4000C027F105500",
         0,
         0x00,
         1,
@@ -324,9 +317,9 @@ pub fn sizes() {
 // Arguments that are refused, and the other access domain.
 pub fn arguments() {
     // Decision 49: each runs, and its refusal is printed.
-    show(b"42 format 7", 0, 0x00, 7, b"", b"00A4000C027F10");
-    show(b"42 domain 7F", 0, 0x7F, 0, b"", b"00A4000C027F10");
-    show(b"42 a script of 0 bytes", 0, 0x00, 0, b"", b"");
+    show(b"format 7", 0, 0x00, 7, b"", b"00A4000C027F10");
+    show(b"domain 7F", 0, 0x7F, 0, b"", b"00A4000C027F10");
+    show(b"a script of 0 bytes", 0, 0x00, 0, b"", b"");
     // In access domain FF no command but C0 is allowed.
     show(b"domain FF", 0, 0xFF, 0, b"", b"00A4000C027F10");
 }
