@@ -1,6 +1,6 @@
 // The three calls.
-pub mod numbers;
-pub mod scripts;
+mod numbers;
+mod scripts;
 
 use numbers::run_number;
 use scripts::run_compact;
