@@ -124,6 +124,9 @@ module _ (c : Card) (e : Entry) (ok : entrySound (c .table) (length (c .files)) 
   unfolding entrySound
   entry-form = ap (λ (k : ℕ). formSound (c .table) (length (c .files)) k (e .place) (length (e .old)) (byte (e .old) 0)) entry-kind ∙ ok
 
+  pub entry-inside : e .place + length (e .old) ≤ length (memoryOf (memoryFor e) c)
+  entry-inside = put-fits c (e .place) (e .old) (memoryFor e) entry-form
+
   restore-one : soundTable (c .table) (c .files) ≡ true → Alike c (restoreOne e c)
   unfolding restoreOne put
   restore-one sound = put-alike c (e .place) (e .old) sound (memoryFor e) entry-form

@@ -26,6 +26,12 @@ unfolding put withMemory memoryOf withJournal
 put-beside fileMemory p d c j = refl
 put-beside tableMemory p d c j = refl
 
+-- a memory of two cards whose memories have the same lengths
+pub memory-length : (m : Memory) (c d : Card) → length (c .table) ≡ length (d .table) → length (c .files) ≡ length (d .files) → length (memoryOf m c) ≡ length (memoryOf m d)
+unfolding memoryOf
+memory-length fileMemory c d t f = f
+memory-length tableMemory c d t f = t
+
 -- bytes that fit there
 pub put-undo : (m : Memory) (p : ℕ) (d : List ℕ) (c : Card) → p + length d ≤ length (memoryOf m c) → put m p (part (memoryOf m c) p (length d)) (put m p d c) ≡ c
 unfolding put withMemory memoryOf

@@ -7,8 +7,8 @@ use mathlib.Core.Logic.{⊎-elim}
 use Prim.Native.Nat.{ℕ, zero, suc, _+_, _-_, _*_, _/_, _%_, _≤_, _<_}
 use native.Mathlib.Nat.{le-refl, add-assoc, add-zero, zero-add, add-sub-cancel-left}
 use native.Mathlib.Omega.{arith}
-use borrow.Author.Tests.{eq-eqb, ne-eqb, le-leb, lt-leb, leb-true, ltb-true, eqb-true}
-use lib.Dec.{leb, ltb, eqb}
+use borrow.Author.Tests.{eq-eqb, ne-eqb, le-leb, lt-leb, eqb-true}
+use lib.Dec.{leb, eqb}
 use lib.ListN.{length, take, drop, length-drop, length-replicate, replicate-append-replicate}
 use lib.Seq.{drop-cons, take-all, take-append-add}
 use Rattle.octets.specs.Choice.{pick}
@@ -17,18 +17,20 @@ use Rattle.octets.proofs.Picks.{pick-true, pick-false, and-left, and-right}
 use Rattle.octets.proofs.Same.{zero-true}
 use Rattle.octets.proofs.Numbers.{byte-part}
 use Rattle.octets.proofs.Writes.{write-two, drop-after}
-use Rattle.card.specs.Row.{Card, lent, entrySize, entries, rowOf}
+use Rattle.card.specs.Row.{Card, lent}
 use Rattle.journal.specs.declared.Tail.{Tail}
-use Rattle.journal.specs.Entries.{Entry, entryOf, headSize, head, tailSize, tail, encode, entryBytes, marksStart, holdsFileBytes, holdsTableByte, isMark, tailBytes, tailIn, tailAt, formed, oldPlace, entryAt, readable, noEntry, entriesBack, entriesOf, usedBytes, scriptsOnTrial, room}
-use Rattle.journal.specs.Sound.{journalLength, mostScripts, mostOldBytes, headSound, tableByteSound, tablePlaceSound, formSound, entrySound, allSound, lastIsMark, oldestIsMark, marks, entriesSound, soundJournal, soundCard}
+use Rattle.journal.specs.Entries.{Entry, entryOf, headSize, head, tailSize, tail, encode, entryBytes, marksStart, holdsTableByte, isMark, tailBytes, tailIn, tailAt, formed, oldPlace, entryAt, readable, noEntry, entriesBack, entriesOf, usedBytes, scriptsOnTrial, room}
+use Rattle.journal.specs.Sound.{journalLength, mostScripts, headSound, formSound, entrySound, allSound, lastIsMark, oldestIsMark, marks, entriesSound, soundJournal, soundCard}
 use Rattle.journal.specs.Changes.{Memory, fileMemory, tableMemory, pushedAt, memoryOf, memoryFor, withMemory, restoreOne, restore, sinceMark, behindMark, bytesTaken, cutBack, withJournal, takenBack}
 use Rattle.journal.proofs.Entries.{either, before, stop, more, count-fits, read, read-only}
 use Rattle.journal.proofs.Tails.{encode-length, old-length}
+use Rattle.journal.proofs.Memories.{memory-length}
 use Rattle.journal.proofs.Pushed.{head-length}
 use Rattle.journal.proofs.Parts.{card-journal, card-parts}
 use Rattle.journal.proofs.Encoded.{taken-all, all-fits}
 use Rattle.journal.proofs.Behind.{since-other, behind-other, marks-other}
 use Rattle.journal.proofs.Cut.{cut-whole}
+use Rattle.journal.proofs.Forms.{entry-inside}
 
 -- a part of a memory, byte by byte
 bytesFrom : List ℕ → ℕ → ℕ → List ℕ
@@ -86,17 +88,17 @@ module _ {b : Bool} (t : List ℕ) (files : ℕ) (j : List ℕ) (u : ℕ) {l : T
       let f : byte (part j at (tailAt j u .count)) 0 ≡ byte j at = byte-part j at (tailAt j u .count) 0 n ∙ rw (add-zero at) in
       r ∙ rw (q, e, old-length j u h fits, f)
 
--- old bytes, tail and head, one after the other
-module _ (j old : List ℕ) (kind place u scripts : ℕ) {j₁ j₂ j₃ bs : List ℕ} (fits : headSize + u + entryBytes (length old) ≤ length j) (first : j₁ ≡ overwrite j (headSize + u) old) (bytes : bs ≡ tail kind place (length old)) (second : j₂ ≡ overwrite j₁ (headSize + u + length old) bs) (third : j₃ ≡ overwrite j₂ 0 (bytes2 (u + entryBytes (length old)) ++ (scripts ∷ 0 ∷ []))) where
-  entry-whole : j₂ ≡ overwrite j (headSize + u) (encode (entryOf kind place old))
+-- old bytes, then their tail and the head
+module _ (j old : List ℕ) (kind place u n scripts : ℕ) {j₁ j₂ : List ℕ} (count : length old ≡ n) (fits : headSize + u + entryBytes n ≤ length j) (first : j₁ ≡ overwrite j (headSize + u) old) (second : j₂ ≡ overwrite (overwrite j₁ (headSize + u + n) (tail kind place n)) 0 (head (u + entryBytes n) scripts 0)) where
+  entry-whole : overwrite j₁ (headSize + u + n) (tail kind place n) ≡ overwrite j (headSize + u) (encode (entryOf kind place old))
   unfolding encode tail bytes2
-  entry-whole =
-      second ∙ (λ i. overwrite (first i) (headSize + u + length old) (bytes i))
-      ∙ sym (write-two j (headSize + u) old (tail kind place (length old)) (omega arith))
+  entry-whole = rw (first, ← count) (sym (write-two j (headSize + u) old (tail kind place (length old)) (omega arith)))
 
-  pub push-steps : j₃ ≡ pushedAt j u scripts (entryOf kind place old)
-  unfolding pushedAt head
-  push-steps = third ∙ λ i. overwrite (entry-whole i) 0 (bytes2 (u + sym (encode-length (entryOf kind place old)) i) ++ (scripts ∷ 0 ∷ []))
+  pub push-steps : j₂ ≡ pushedAt j u scripts (entryOf kind place old)
+  unfolding pushedAt
+  push-steps =
+      let e : entryBytes n ≡ length (encode (entryOf kind place old)) = sym (encode-length (entryOf kind place old) ∙ ap entryBytes count) in
+      second ∙ λ i. overwrite (entry-whole i) 0 (head (u + e i) scripts 0)
 
 -- the journal cut back: its head, then the freed bytes
 module _ (j : List ℕ) (u used scripts : ℕ) {j₁ j₂ : List ℕ} (less : u ≤ used) (fits : headSize + used ≤ length j) (rest : allZero (drop (headSize + used) j) ≡ true) (first : j₁ ≡ overwrite j 0 (bytes2 u ++ (scripts ∷ 0 ∷ []))) (second : j₂ ≡ overwrite j₁ (headSize + u) (zeros (used - u))) where
@@ -154,37 +156,6 @@ module _ {b : Bool} (t : List ℕ) (files scripts : ℕ) (j : List ℕ) (u n : �
   unfolding soundFrom allSound lastIsMark marks entryAt
   sound-goes-on h f e q =
       rw (q, e, add-assoc n (pick (eqb (tailAt j u .kind) marksStart) 1 0) (marks (entriesBack (before j u) j (before j u)))) (rw (back-next j u h, f) at left)
-
--- a sound entry lies inside its memory
-files-inside : (a b c r : Bool) (place n files : ℕ) → c ≡ false → pick a (eqb place 0 && eqb n 0) (pick b (leb 1 n && (leb n mostOldBytes && leb (place + n) files)) (c && r)) ≡ true → place + n ≤ files
-unfolding pick
-files-inside true b c r place n files e h = omega (arith, eqb-true place 0 (and-left (eqb place 0) (eqb n 0) h), eqb-true n 0 (and-right (eqb place 0) (eqb n 0) h))
-files-inside false true c r place n files e h =
-    leb-true (place + n) files (and-right (leb n mostOldBytes) (leb (place + n) files) (and-right (leb 1 n) (leb n mostOldBytes && leb (place + n) files) h))
-files-inside false false true r place n files e h = absurd (false≢true (sym e))
-files-inside false false false r place n files e h = absurd (false≢true h)
-
-module _ (t t′ f′ j : List ℕ) (files : ℕ) (e : Entry) (sound : entrySound t files e ≡ true) (lt : length t′ ≡ length t) (lf : length f′ ≡ files) where
-  in-table : e .kind ≡ holdsTableByte → e .place + length (e .old) ≤ length (memoryOf (memoryFor e) (lent t′ f′ j))
-  unfolding entrySound formSound tablePlaceSound memoryOf memoryFor pick
-  in-table k =
-      let n : Bool = eqb (length (e .old)) 1 in
-      let p : Bool = ltb (e .place / entrySize) (entries t) in
-      let r : Bool = tableByteSound (rowOf t (e .place / entrySize)) (e .place % entrySize) (byte (e .old) 0) in
-      let h : (n && (p && r)) ≡ true = rw k at sound in
-      rw k (omega (arith, eqb-true (length (e .old)) 1 (and-left n (p && r) h), ltb-true (e .place / entrySize) (entries t) (and-left p r (and-right n (p && r) h))))
-
-  in-files : eqb (e .kind) holdsTableByte ≡ false → e .place + length (e .old) ≤ length (memoryOf (memoryFor e) (lent t′ f′ j))
-  unfolding entrySound formSound memoryOf memoryFor pick
-  in-files k =
-      rw (k, lf) (files-inside (eqb (e .kind) marksStart) (eqb (e .kind) holdsFileBytes) (eqb (e .kind) holdsTableByte) (eqb (length (e .old)) 1 && tablePlaceSound t (e .place) (byte (e .old) 0)) (e .place) (length (e .old)) files k sound)
-
-  pub sound-inside : e .place + length (e .old) ≤ length (memoryOf (memoryFor e) (lent t′ f′ j))
-  sound-inside = go (eqb (e .kind) holdsTableByte) refl
-    where
-      go : (b : Bool) → eqb (e .kind) holdsTableByte ≡ b → e .place + length (e .old) ≤ length (memoryOf (memoryFor e) (lent t′ f′ j))
-      go true k = in-table (eqb-true (e .kind) holdsTableByte k)
-      go false k = in-files k
 
 -- an entry's old bytes are given back to the memory that they came from
 module _ (j : List ℕ) (u : ℕ) {l : Tail} (e : l ≡ tailAt j u) where
@@ -255,9 +226,6 @@ module _ {t₀ f₀ j : List ℕ} {used : ℕ} {t f : List ℕ} {u : ℕ} (g : G
   back-sound : entrySound t₀ (length f₀) (entryAt j u) ≡ true
   back-sound = newest-sound t₀ (length f₀) j u any (g .sound)
 
-  pub back-inside : entryAt j u .place + length (entryAt j u .old) ≤ length (memoryOf (memoryFor (entryAt j u)) (lent t f j))
-  back-inside = sound-inside t₀ t f j (length f₀) (entryAt j u) back-sound (g .same-table) (g .same-files)
-
   module _ (k : tailAt j u .kind ≡ marksStart) where
     mark-empty : tailAt j u .count ≡ 0
     unfolding entrySound formSound entryAt pick
@@ -278,21 +246,29 @@ module _ {t₀ f₀ j : List ℕ} {used : ℕ} {t f : List ℕ} {u : ℕ} (g : G
         let h : bytesTaken (entriesBack v j v) ≡ v = taken-all t₀ (length f₀) j (read v j v (le-refl v)) (omega arith) (older-sound t₀ (length f₀) j u any (g .sound)) in
         e ∙ sym h ∙ (rw (newest-first t₀ (length f₀) j u any (g .sound), eq-eqb (tailAt j u .kind) marksStart k) at (g .bytes))
 
-  pub back-goes-on : {l : Tail} {t′ f′ : List ℕ} → l ≡ tailAt j u → (l .kind ≡ marksStart → ⊥) → length t′ ≡ length t → length f′ ≡ length f → lent t′ f′ j ≡ restoreOne (entryAt j u) (lent t f j) → GoesBack t₀ f₀ j used t′ f′ (u - entryBytes (l .count))
-  unfolding restore entryAt
-  back-goes-on {l} {t′} {f′} e k lt lf r =
-      let es : List Entry = entriesBack (before j u) j (before j u) in
-      let other : isMark (entryAt j u) ≡ false = ne-eqb (tailAt j u .kind) marksStart (rw e at k) in
-      let s : entriesBack u j u ≡ entryAt j u ∷ es = newest-first t₀ (length f₀) j u any (g .sound) in
-      rw e (record {
-        inside = omega arith;
-        same-table = lt ∙ g .same-table;
-        same-files = lf ∙ g .same-files;
-        sound = older-sound t₀ (length f₀) j u any (g .sound);
-        marked = rw (s, marks-other (entryAt j u) es other) at (g .marked);
-        card = rw r (rw (s, since-other (entryAt j u) es other) at (g .card));
-        bytes = rw (s, behind-other (entryAt j u) es other) at (g .bytes);
-      })
+  module _ {l : Tail} (e : l ≡ tailAt j u) (k : l .kind ≡ marksStart → ⊥) where
+    other : isMark (entryAt j u) ≡ false
+    unfolding entryAt
+    other = ne-eqb (tailAt j u .kind) marksStart (rw e at k)
+
+    pub back-inside : entryAt j u .place + length (entryAt j u .old) ≤ length (memoryOf (memoryFor (entryAt j u)) (lent t f j))
+    back-inside =
+        rw (memory-length (memoryFor (entryAt j u)) (lent t f j) (lent t₀ f₀ j) (g .same-table) (g .same-files)) (entry-inside (lent t₀ f₀ j) (entryAt j u) back-sound other)
+
+    pub back-goes-on : {t′ f′ : List ℕ} → length t′ ≡ length t → length f′ ≡ length f → lent t′ f′ j ≡ restoreOne (entryAt j u) (lent t f j) → GoesBack t₀ f₀ j used t′ f′ (u - entryBytes (l .count))
+    unfolding restore
+    back-goes-on lt lf r =
+        let es : List Entry = entriesBack (before j u) j (before j u) in
+        let s : entriesBack u j u ≡ entryAt j u ∷ es = newest-first t₀ (length f₀) j u any (g .sound) in
+        rw e (record {
+          inside = omega arith;
+          same-table = lt ∙ g .same-table;
+          same-files = lf ∙ g .same-files;
+          sound = older-sound t₀ (length f₀) j u any (g .sound);
+          marked = rw (s, marks-other (entryAt j u) es other) at (g .marked);
+          card = rw r (rw (s, since-other (entryAt j u) es other) at (g .card));
+          bytes = rw (s, behind-other (entryAt j u) es other) at (g .bytes);
+        })
 
 -- the journal's soundness, test by test
 head-four : (a b c d : ℕ) → a < 256 → b < 256 → same (a ∷ b ∷ c ∷ d ∷ []) (head (a * 256 + b) c 0) ≡ eqb d 0

@@ -9,7 +9,7 @@ ghost use mathlib.Core.List.{[], _∷_};
 ghost use Prim.Native.Nat.{_+_, _≤_, _<_};
 ghost use lib.ListN.{length};
 ghost use Rattle.octets.specs.Bytes.{part, overwrite};
-ghost use Rattle.journal.specs.Entries.{entryOf, tail, mark, holdsFileBytes, holdsTableByte};
+ghost use Rattle.journal.specs.Entries.{entryOf, head, tail, mark, holdsFileBytes, holdsTableByte};
 ghost use Rattle.journal.specs.Changes.{pushedAt};
 
 // The eight bytes of a tail.
@@ -28,16 +28,14 @@ fn tail_bytes(kind: u8, place: usize, n: usize) -> [u8; 8]
     ]
 }
 
-// One entry more behind the first `used` bytes of entries, with so many scripts on trial: old bytes, tail, head.
-fn push(journal: &mut [u8], used: usize, scripts: u8, kind: u8, place: usize, old: &[u8])
-    requires { ⌜ 4 + used + (8 + length (now old)) ≤ length (now journal) ⌝ }
-    ensures { λ _. ⌜ now (journal .exit) ≡ pushedAt (now (journal .entry)) used scripts (entryOf kind place (now (old .entry))) ⌝ }
+// The entry that begins behind the first `used` bytes of entries and whose n old bytes stand there is closed, with so many scripts on trial: tail, head.
+fn close(journal: &mut [u8], used: usize, scripts: u8, kind: u8, place: usize, n: usize)
+    requires { ⌜ 4 + used + (8 + n) ≤ length (now journal) ⌝ }
+    ensures { λ _. ⌜ now (journal .exit) ≡ overwrite (overwrite (now (journal .entry)) (4 + used + n) (tail kind place n)) 0 (head (used + (8 + n)) scripts 0) ⌝ }
 {
-    let at = HEAD_SIZE + used;
-    octets::copy(journal, at, old);
-    let tail = tail_bytes(kind, place, old.len());
-    octets::copy(journal, at + old.len(), &tail);
-    octets::put_head(journal, used + (TAIL_SIZE + old.len()), scripts, 0);
+    let tail = tail_bytes(kind, place, n);
+    octets::copy(journal, HEAD_SIZE + used + n, &tail);
+    octets::put_head(journal, used + (TAIL_SIZE + n), scripts, 0);
 }
 
 // A script's mark, with so many scripts on trial after it.
@@ -45,15 +43,7 @@ pub fn push_mark(journal: &mut [u8], used: usize, scripts: u8)
     requires { ⌜ 4 + used + 8 ≤ length (now journal) ⌝ }
     ensures { λ _. ⌜ now (journal .exit) ≡ pushedAt (now (journal .entry)) used scripts mark ⌝ }
 {
-    push(journal, used, scripts, MARKS_START as u8, 0, &[]);
-}
-
-// Bytes are put into a file's own part of the memory, at an offset in it.
-fn put_in(files: &mut [u8], start: usize, size: usize, offset: usize, new: &[u8])
-    requires { ⌜ (start + size ≤ length (now files)) × (offset + length (now new) ≤ size) ⌝ }
-    ensures { λ _. ⌜ now (files .exit) ≡ overwrite (now (files .entry)) (start + offset) (now (new .entry)) ⌝ }
-{
-    octets::copy(&mut files[start..start + size], offset, new);
+    close(journal, used, scripts, MARKS_START as u8, 0, 0);
 }
 
 // Bytes are written into a file, with its start and size, at an offset in it: the journal gets the old bytes, then the file the new ones.
@@ -71,16 +61,21 @@ pub fn write_file(
     ensures { λ _. ⌜ (now (files .exit) ≡ overwrite (now (files .entry)) (start + offset) (now (new .entry)))
         × (now (journal .exit) ≡ pushedAt (now (journal .entry)) used scripts (entryOf holdsFileBytes (start + offset) (part (now (files .entry)) (start + offset) (length (now (new .entry)))))) ⌝ }
 {
-    let at = start + offset;
-    push(
+    octets::exchange(
+        journal,
+        HEAD_SIZE + used,
+        &mut files[start..start + size],
+        offset,
+        new,
+    );
+    close(
         journal,
         used,
         scripts,
         HOLDS_FILE_BYTES as u8,
-        at,
-        &files[at..at + new.len()],
+        start + offset,
+        new.len(),
     );
-    put_in(files, start, size, offset, new);
 }
 
 // A byte of the table is written: the journal gets the old byte, then the table the new one.
@@ -96,13 +91,7 @@ pub fn write_table(
     ensures { λ _. ⌜ (now (table .exit) ≡ overwrite (now (table .entry)) place (new ∷ []))
         × (now (journal .exit) ≡ pushedAt (now (journal .entry)) used scripts (entryOf holdsTableByte place (part (now (table .entry)) place 1))) ⌝ }
 {
-    push(
-        journal,
-        used,
-        scripts,
-        HOLDS_TABLE_BYTE as u8,
-        place,
-        &table[place..place + 1],
-    );
-    octets::fill(table, place, 1, new);
+    journal[HEAD_SIZE + used] = table[place];
+    table[place] = new;
+    close(journal, used, scripts, HOLDS_TABLE_BYTE as u8, place, 1);
 }

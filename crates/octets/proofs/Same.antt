@@ -9,9 +9,10 @@ use native.Mathlib.Omega.{arith}
 use lib.Dec.{eqb}
 use lib.ListN.{length, take, drop, drop-of-length-le}
 use lib.Seq.{drop-cons, drop-drop}
-use borrow.Author.Tests.{eqb-true, eq-eqb, ne-eqb}
+use borrow.Author.Tests.{eqb-true, eq-eqb}
 use Rattle.octets.specs.Bytes.{byte, zeros, allZero, same, startsWith, contains}
 use Rattle.octets.proofs.Picks.{and-left, and-right, and-both}
+use Rattle.octets.proofs.Numbers.{byte-part}
 
 pub same-true : (a b : List ℕ) → same a b ≡ true → a ≡ b
 unfolding same
@@ -51,9 +52,6 @@ module _ {t : Bool} (m d : List ℕ) (j i : ℕ) (left : t ≡ startsWith (drop 
   unfolding startsWith
   starts-next h g = left ∙ rw (add-one j, add-one i, drop-cons m j 0 h, drop-cons d i 0 g)
 
-  pub starts-fails : j < length m → i < length d → (byte m j ≡ byte d i → ⊥) → false ≡ t
-  starts-fails h g e = sym (rw (ne-eqb (byte m j) (byte d i) e) at (starts-next h g))
-
 pub starts-empty : (m d : List ℕ) → length d ≡ 0 → true ≡ startsWith m d
 unfolding startsWith
 starts-empty m [] h = refl
@@ -75,6 +73,14 @@ unfolding startsWith
 starts-true m [] h = refl
 starts-true [] (y ∷ d) h = absurd (false≢true h)
 starts-true (x ∷ m) (y ∷ d) h = λ i. eqb-true x y (and-left (eqb x y) (startsWith m d) h) i ∷ starts-true m d (and-right (eqb x y) (startsWith m d) h) i
+
+-- another byte tells
+pub starts-differs : (m d : List ℕ) (at i : ℕ) → i < length d → (byte m (at + i) ≡ byte d i → ⊥) → false ≡ startsWith (drop at m) d
+starts-differs m d at i h e = by (startsWith (drop at m) d) refl
+  where
+    by : (b : Bool) → startsWith (drop at m) d ≡ b → false ≡ startsWith (drop at m) d
+    by false q = sym q
+    by true q = absurd (e (sym (byte-part m at (length d) i h) ∙ ap (λ (l : List ℕ). byte l i) (starts-true (drop at m) d q)))
 
 pub starts-front : (d r : List ℕ) → startsWith (d ++ r) d ≡ true
 unfolding startsWith

@@ -2,14 +2,17 @@
 use mathlib.Core.Path.{_≡_, sym, ap, _∙_}
 use mathlib.Core.List.{List, [], _∷_, _++_, append-assoc}
 use Prim.Native.Nat.{ℕ, zero, suc, _+_, _-_, _≤_, _<_}
-use native.Mathlib.Nat.{add-assoc, add-zero, zero-add, suc-add, add-sub-of-le, le-refl}
+use native.Mathlib.Nat.{add-assoc, add-zero, zero-add, suc-add, add-sub-of-le, add-sub-cancel-left, le-refl}
 use native.Mathlib.Numerals.{add-one}
 use native.Mathlib.Omega.{arith}
 use lib.ListN.{length, set, take, drop, length-append, length-take, length-drop, length-replicate, replicate-append-replicate, take-append-drop, List·getD-append}
-use lib.Seq.{length-take-le, take-append-le, take-append-add, take-append-seam, drop-append-le, drop-append-add, take-at, drop-at, drop-drop, take-take, take-nil, take-add, set-split, sets, sets-eq, getD-take, getD-drop}
+use lib.Seq.{length-take-le, take-append-le, take-append-add, take-append-seam, drop-append-le, drop-append-add, take-at, drop-at, drop-drop, take-take, take-nil, take-add, take-suc, set-split, sets, sets-eq, getD-take, getD-drop}
 use Rattle.octets.specs.Bytes.{byte, part, overwrite, zeros}
 
--- parts of a memory
+-- parts of a memory: one that is lent by where it starts and where it ends
+pub part-lent : (m : List ℕ) (p n : ℕ) → part m p (p + n - p) ≡ part m p n
+part-lent m p n = ap (part m p) (add-sub-cancel-left p n)
+
 part-cut : (a n : ℕ) (m : List ℕ) → part m a n ≡ drop a (take (a + n) m)
 part-cut zero n m = rw zero-add
 part-cut (suc a) n [] = rw suc-add (take-nil n)
@@ -146,6 +149,11 @@ write-more m p a n b l h =
     let f : p + length a ≤ length m = omega arith in
     let g : p + n < length (overwrite m p a) = rw (write-length m p a f) h in
     set-write (overwrite m p a) (p + n) b g ∙ rw (← l) (sym (write-two m p a (b ∷ []) (omega arith)))
+
+-- a run of which the first i bytes are written, and one more
+pub write-next : (m m₀ d : List ℕ) (at i : ℕ) → at + length d ≤ length m₀ → i < length d → m ≡ overwrite m₀ at (take i d) → set m (at + i) (byte d i) ≡ overwrite m₀ at (take (i + 1) d)
+write-next m m₀ d at i fits h e =
+    rw (e, add-one, take-suc d i 0) (write-more m₀ at (take i d) i (byte d i) (length-take-le i d (omega arith)) (omega arith))
 
 -- a run of stores, one byte after the other
 pub sets-write : (m : List ℕ) (p : ℕ) (d : List ℕ) → p + length d ≤ length m → sets m p d ≡ overwrite m p d

@@ -3,7 +3,7 @@ ghost use mathlib.Core.Path.{_≡_};
 ghost use mathlib.Core.List.{[], _∷_, _++_};
 ghost use Prim.Native.Nat.{_+_, _≤_, _<_};
 ghost use lib.ListN.{length, drop, replicate};
-ghost use Rattle.octets.specs.Bytes.{numAt, bytes2, overwrite, allZero, startsWith, contains};
+ghost use Rattle.octets.specs.Bytes.{part, numAt, bytes2, overwrite, allZero, startsWith, contains};
 
 // A byte as a number.
 pub fn wide(b: u8) -> usize
@@ -39,6 +39,20 @@ pub fn copy(m: &mut [u8], at: usize, d: &[u8])
     let mut i: usize = 0;
     while i < d.len() {
         m[at + i] = d[i];
+        i += 1;
+    }
+}
+
+// A run of bytes is put at an offset of a file, and what stood there goes to a place of the memory.
+pub fn exchange(m: &mut [u8], at: usize, file: &mut [u8], offset: usize, d: &[u8])
+    requires { ⌜ (at + length (now d) ≤ length (now m)) × (offset + length (now d) ≤ length (now file)) ⌝ }
+    ensures { λ _. ⌜ (now (m .exit) ≡ overwrite (now (m .entry)) at (part (now (file .entry)) offset (length (now (d .entry)))))
+        × (now (file .exit) ≡ overwrite (now (file .entry)) offset (now (d .entry))) ⌝ }
+{
+    let mut i: usize = 0;
+    while i < d.len() {
+        m[at + i] = file[offset + i];
+        file[offset + i] = d[i];
         i += 1;
     }
 }
@@ -93,7 +107,7 @@ fn same_at(m: &[u8], at: usize, d: &[u8]) -> bool
     same
 }
 
-// Whether the bytes from a place on begin with a run of bytes: most often the first byte tells.
+// Whether the bytes from a place on begin with a run of bytes: most often the first byte tells, or the last.
 pub fn starts_at(m: &[u8], at: usize, d: &[u8]) -> bool
     requires { ⌜ at + length (now d) ≤ length (now m) ⌝ }
     ensures { λ r. ⌜ r ≡ startsWith (drop at (now (m .entry))) (now (d .entry)) ⌝ }
@@ -102,6 +116,10 @@ pub fn starts_at(m: &[u8], at: usize, d: &[u8]) -> bool
         return true;
     }
     if m[at] != d[0] {
+        return false;
+    }
+    let last = d.len() - 1;
+    if m[at + last] != d[last] {
         return false;
     }
     same_at(m, at, d)

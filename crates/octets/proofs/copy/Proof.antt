@@ -1,14 +1,12 @@
 -- `octets::copy` meets its contract. The loop's invariant: the first i bytes of the run are written at the place, and nothing else. Assumes nothing.
 use mathlib.Core.Path.{_≡_, refl, sym, ap, _∙_}
-use mathlib.Core.List.{List}
-use Prim.Native.Nat.{ℕ, _+_, _-_, _≤_, _<_}
+use Prim.Native.Nat.{_-_, _≤_}
 use native.Mathlib.Omega.{arith}
 use borrow.Author.Needs.{needs}
-use native.Mathlib.Numerals.{add-one}
-use lib.ListN.{length, set, take, length-set}
-use lib.Seq.{length-take-le, take-suc, take-all}
-use Rattle.octets.specs.Bytes.{byte, overwrite}
-use Rattle.octets.proofs.Writes.{write-none, write-more}
+use lib.ListN.{length, take, length-set}
+use lib.Seq.{take-all}
+use Rattle.octets.specs.Bytes.{overwrite}
+use Rattle.octets.proofs.Writes.{write-none, write-next}
 use Rattle.octets.proofs.copy.Statement.{statement}
 use Rattle.octets.proofs.copy.Tie as tie
 
@@ -36,12 +34,8 @@ add-i c = search needs
 loop-less : tie.Need-loop-less Inv-loop μ-loop
 loop-less c = search needs
 
-more : (m m₀ d : List ℕ) (at i : ℕ) → at + length d ≤ length m₀ → i < length d → m ≡ overwrite m₀ at (take i d) → set m (at + i) (byte d i) ≡ overwrite m₀ at (take (i + 1) d)
-more m m₀ d at i fits h e =
-    rw (e, add-one, take-suc d i 0) (write-more m₀ at (take i d) i (byte d i) (length-take-le i d (omega arith)) (omega arith))
-
 loop-again : tie.Need-loop-again Inv-loop μ-loop
-loop-again c = (omega arith, simp length-set (omega arith), more _ _ _ _ _ (c .before .before .before .pre) (omega arith) (c .before .before .loop .inv .2))
+loop-again c = (omega arith, simp length-set (omega arith), write-next _ _ _ _ _ (c .before .before .before .pre) (omega arith) (c .before .before .loop .inv .2))
 
 same-length : tie.Need-same-length Inv-loop μ-loop
 same-length c = search needs

@@ -1,8 +1,10 @@
--- `octets::starts_at` meets its contract: another first byte tells, and else all are compared. Assumes nothing.
-use mathlib.Core.Path.{refl}
+-- `octets::starts_at` meets its contract: another first or last byte tells, and else all are compared. Assumes nothing.
+use mathlib.Core.Path.{sym, ap, _∙_}
+use native.Mathlib.Nat.{add-zero}
 use native.Mathlib.Omega.{arith}
 use borrow.Author.Needs.{needs}
-use Rattle.octets.proofs.Same.{starts-empty, starts-fails}
+use Rattle.octets.specs.Bytes.{byte}
+use Rattle.octets.proofs.Same.{starts-empty, starts-differs}
 use Rattle.octets.proofs.starts_at.Statement.{statement}
 use Rattle.octets.proofs.starts_at.Tie as tie
 
@@ -18,13 +20,30 @@ shared-slice-read-if2-2 c = search needs
 returns-2 : tie.Need-returns-2
 returns-2 c =
     let a = c .before .before .before .before .before .before .args in
-    starts-fails (a .m .now) (a .d .now) (a .at) 0 refl (omega arith) (omega arith) (c .if2 .taken)
+    starts-differs (a .m .now) (a .d .now) (a .at) 0 (omega arith) (λ e. c .if2 .taken (ap (byte (a .m .now)) (sym (add-zero (a .at))) ∙ e))
+
+sub-last : tie.Need-sub-last
+sub-last c = search needs
+
+add-if3 : tie.Need-add-if3
+add-if3 c = search needs
+
+shared-slice-read-if3 : tie.Need-shared-slice-read-if3
+shared-slice-read-if3 c = search needs
+
+shared-slice-read-if3-2 : tie.Need-shared-slice-read-if3-2
+shared-slice-read-if3-2 c = search needs
+
+returns-3 : tie.Need-returns-3
+returns-3 c =
+    let a = c .before .before .before .before .before .before .before .before .before .args in
+    starts-differs (a .m .now) (a .d .now) (a .at) _ (omega arith) (c .if3 .taken)
 
 same-at-requires : tie.Need-same-at-requires
 same-at-requires c κs = search needs
 
-returns-3 : tie.Need-returns-3
-returns-3 c = search needs
+returns-4 : tie.Need-returns-4
+returns-4 c = search needs
 
 pub starts-at-spec : {M : Type 1} → statement M
 starts-at-spec =
@@ -34,5 +53,10 @@ starts-at-spec =
     shared-slice-read-if2
     shared-slice-read-if2-2
     returns-2
+    sub-last
+    add-if3
+    shared-slice-read-if3
+    shared-slice-read-if3-2
+    returns-3
     same-at-requires
-    returns-3)
+    returns-4)

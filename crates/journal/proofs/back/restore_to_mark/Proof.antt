@@ -37,7 +37,7 @@ restore-one-requires : tie.Need-restore-one-requires Inv-loop μ-loop
 restore-one-requires c κs =
     let s = c .before .before .before .before .before .before .before .before .before in
     let g = c .before .before .before .before .before .loop .inv in
-    (omega arith, back-readable g (s .pre .0), back-inside g (s .pre .0))
+    (omega arith, back-readable g (s .pre .0), back-inside g (s .pre .0) (c .before .before .before .before .tail-at .ensures .0) (c .before .before .if1 .left))
 
 add-u : tie.Need-add-u Inv-loop μ-loop
 add-u c = search needs
