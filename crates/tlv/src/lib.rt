@@ -1,0 +1,3 @@
+// Tags, lengths and values: the lengths, and the template of an expanded script.
+pub mod lengths;
+pub mod template;
