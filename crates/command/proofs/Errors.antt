@@ -79,8 +79,8 @@ unfolding decided
 still-decided w none = still-by (w .command .instruction) w
 still-decided w (some k) = still-failed (w .session) _
 
-pub error-still : (w : Situation) (card : Card) (x : ℕ) → planned w .outcome ≡ Error x → (carriedOut (planned w) card .card ≡ card) × (carriedOut (planned w) card .session ≡ w .session)
+pub error-still : (w : Situation) (waiting : List ℕ) (card : Card) (x : ℕ) → planned w .outcome ≡ Error x → (carriedOut (planned w) waiting card .card ≡ card) × (carriedOut (planned w) waiting card .session ≡ w .session)
 unfolding planned carriedOut perform
-error-still w card x e =
+error-still w waiting card x e =
     let k = still-decided w (firstFailing w (order (w .command .instruction))) x e in
     (ap (λ (ws : List Write). perform ws card) (k .0), k .1)

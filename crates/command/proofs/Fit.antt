@@ -23,7 +23,7 @@ use Rattle.session.specs.Session.{atRecord, selected}
 use Rattle.session.specs.Select.{find}
 use Rattle.session.specs.Fcp.{fcp}
 use Rattle.session.specs.Good.{Belongs, GoodFile, Good}
-use Rattle.session.proofs.Good.{good-record, good-dropped, good-put, good-selected, find-belongs}
+use Rattle.session.proofs.Good.{good-record, good-waits, good-dropped, good-selected, find-belongs}
 use Rattle.session.proofs.Template.{fcp-short}
 use Rattle.command.specs.declared.Format.{Format}
 use Rattle.command.specs.declared.Format.the-variants.{Compact, Expanded}
@@ -38,6 +38,7 @@ use Rattle.command.proofs.Noted.{First, found-few, found-first}
 pub record Fit (card : Card) (c : Command) (p : Plan) : Type 0 where
   pub forms : AllForms (p .writes) card
   pub good : Good (card .table) (p .session)
+  pub made : length (p .made) ≤ 255
   pub outcome : c .p3 < 256 → OutcomeFits (length (card .files)) (p .outcome)
 
 most-read : (format : Format) → mostRead format ≤ 256
@@ -49,26 +50,26 @@ most-read Expanded = omega arith
 module _ (card : Card) (c : Command) (s : Session) (good : Good (card .table) s) where
   pub fit-failed : (word : ℕ) → Fit card c (failed s word)
   unfolding failed OutcomeFits
-  fit-failed word = record { forms = tt; good = good; outcome = λ b. tt }
+  fit-failed word = record { forms = tt; good = good; made = omega arith; outcome = λ b. tt }
 
   fit-done : (word : ℕ) (ws : List Write) → AllForms ws card → Fit card c (done s word ws)
   unfolding done OutcomeFits
-  fit-done word ws forms = record { forms = forms; good = good-dropped (card .table) s good; outcome = λ b. tt }
+  fit-done word ws forms = record { forms = forms; good = good-dropped (card .table) s good; made = omega arith; outcome = λ b. tt }
 
   fit-handed : (word place n : ℕ) → place + n ≤ length (card .files) → (c .p3 < 256 → n ≤ 256) → Fit card c (handed s word place n)
   unfolding handed OutcomeFits
-  fit-handed word place n inside few = record { forms = tt; good = good-dropped (card .table) s good; outcome = λ b. (inside, few b) }
+  fit-handed word place n inside few = record { forms = tt; good = good-dropped (card .table) s good; made = omega arith; outcome = λ b. (inside, few b) }
 
   fit-produced : (format : Format) (word : ℕ) (d : List ℕ) (ws : List Write) → length d ≤ 255 → AllForms ws card → Fit card c (produced format s word d ws)
   unfolding produced OutcomeFits
-  fit-produced Compact word d ws few forms = record { forms = forms; good = good-put (card .table) s good d (length d) word few few; outcome = λ b. tt }
-  fit-produced Expanded word d ws few forms = record { forms = forms; good = good-put (card .table) s good d 0 0 few (omega arith); outcome = λ b. few }
+  fit-produced Compact word d ws few forms = record { forms = forms; good = good-waits (card .table) s good (length d) word few; made = few; outcome = λ b. tt }
+  fit-produced Expanded word d ws few forms = record { forms = forms; good = good-dropped (card .table) s good; made = few; outcome = λ b. few }
 
   -- GET RESPONSE
   pub fit-response : Fit card c (getResponse c s)
   unfolding getResponse OutcomeFits
   fit-response =
-      record { forms = tt; good = good; outcome = λ b. on-pick (λ n. n ≤ 255) _ (s .valid) (c .p3) (λ e. good .valid) (λ e. omega arith) }
+      record { forms = tt; good = good; made = omega arith; outcome = λ b. on-pick (λ n. n ≤ 255) _ (s .valid) (c .p3) (λ e. good .valid) (λ e. omega arith) }
 
 module _ (card : Card) (sound : soundTable (card .table) (card .files) ≡ true) (c : Command) (s : Session) (good : Good (card .table) s) where
   -- SELECT

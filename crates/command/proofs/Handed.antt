@@ -1,14 +1,16 @@
--- The data that a command hands out: they lie in the file memory after it, whose length it keeps, or in the waiting bytes; and only a command of case 2 or 4 has any. Assumes nothing.
+-- The data that a command hands out: they lie in the file memory after it, or in the waiting bytes, whose lengths it keeps; and only a command of case 2 or 4 has any. Assumes nothing.
 use mathlib.Core.Path.{_≡_, refl, sym, ap, _∙_}
 use mathlib.Core.Bool.{Bool, true, false, _||_, false≢true}
 use mathlib.Core.List.{List, [], _∷_}
 use mathlib.Core.Option.{Option, none, some}
 use Prim.Native.Nat.{ℕ, _≤_, _<_}
 use lib.Dec.{eqb}
+use native.Mathlib.Omega.{arith}
 use lib.ListN.{length}
 use borrow.Author.Tests.{eqb-true}
 use Rattle.octets.specs.Choice.{pick}
 use Rattle.octets.proofs.Picks.{and-left, on-pick}
+use Rattle.octets.proofs.Writes.{write-length}
 use Rattle.card.specs.declared.tree.Found.{Found}
 use Rattle.card.specs.declared.tree.Found.the-variants.{At, Nothing}
 use Rattle.card.specs.Row.{Card, isCyclic}
@@ -18,6 +20,7 @@ use Rattle.journal.proofs.Parts.{card-table}
 use Rattle.journal.proofs.Written.{AllFit, fit-kept, write-lengths}
 use Rattle.journal.proofs.Kept.{forms-fit}
 use Rattle.session.specs.declared.Session.{Session}
+use Rattle.session.specs.Session.{mostWaiting}
 use Rattle.session.specs.Good.{Good}
 use Rattle.command.specs.declared.Format.{Format}
 use Rattle.command.specs.declared.Command.{Command}
@@ -45,12 +48,16 @@ module _ (s : Session) (card : Card) (sound : soundCard card ≡ true) (good : G
   fit : Fit card c plan
   fit = planned-fit format domain c «data» s card (card-table card sound) good brief
 
-  pub files-kept : length (carriedOut plan card .card .files) ≡ length (card .files)
-  unfolding carriedOut memoryOf
-  files-kept = perform-lengths (plan .writes) card (forms-fit (plan .writes) card (fit .forms)) fileMemory
+  pub waiting-kept : (waiting : List ℕ) → length waiting ≡ mostWaiting → length (carriedOut plan waiting card .waiting) ≡ mostWaiting
+  unfolding carriedOut
+  waiting-kept waiting h = let m = fit .made in write-length waiting 0 (plan .made) (omega arith) ∙ h
 
-  pub outcome-fits : c .p3 < 256 → OutcomeFits (length (carriedOut plan card .card .files)) (plan .outcome)
-  outcome-fits p3 = rw files-kept (fit .outcome p3)
+  pub files-kept : (waiting : List ℕ) → length (carriedOut plan waiting card .card .files) ≡ length (card .files)
+  unfolding carriedOut memoryOf
+  files-kept waiting = perform-lengths (plan .writes) card (forms-fit (plan .writes) card (fit .forms)) fileMemory
+
+  pub outcome-fits : c .p3 < 256 → (waiting : List ℕ) → OutcomeFits (length (carriedOut plan waiting card .card .files)) (plan .outcome)
+  outcome-fits p3 waiting = rw (files-kept waiting) (fit .outcome p3)
 
 -- the cases of a command that may hand out data
 abbrev handsOut : ℕ → Bool

@@ -1,9 +1,12 @@
--- A command keeps its card sound, the scripts on trial, its session good, and what a take-back gives. Assumes nothing.
+-- A command keeps its card sound, the scripts on trial, its session good, 255 waiting bytes, and what a take-back gives. Assumes nothing.
 use mathlib.Core.Path.{_≡_, refl, _∙_}
 use mathlib.Core.Bool.{Bool, true, false}
 use mathlib.Core.List.{List, [], _∷_}
 use Prim.Native.Nat.{ℕ, _+_, _≤_}
+use native.Mathlib.Omega.{arith}
 use lib.ListN.{length}
+use Rattle.octets.specs.Bytes.{overwrite}
+use Rattle.octets.proofs.Writes.{write-length}
 use Rattle.card.specs.Row.{Card}
 use Rattle.journal.specs.Entries.{usedBytes, scriptsOnTrial, room}
 use Rattle.journal.specs.Sound.{soundCard}
@@ -13,12 +16,13 @@ use Rattle.journal.proofs.Written.{Writable, sound-writable, AllFit, fit-kept, 
 use Rattle.journal.proofs.Undone.{back-perform}
 use Rattle.journal.proofs.Kept.{forms-fit, perform-sound}
 use Rattle.session.specs.declared.Session.{Session}
+use Rattle.session.specs.Session.{mostWaiting}
 use Rattle.session.specs.Good.{Good}
 use Rattle.session.proofs.Good.{good-kept}
 use Rattle.command.specs.declared.Format.{Format}
 use Rattle.command.specs.declared.Command.{Command}
 use Rattle.command.specs.Outcomes.{Plan, failed}
-use Rattle.command.specs.Commands.{situation, planned, carriedOut}
+use Rattle.command.specs.Commands.{Moved, situation, planned, carriedOut}
 use Rattle.command.proofs.Rows.{rows-perform}
 use Rattle.command.proofs.Fit.{Fit}
 use Rattle.command.proofs.Planned.{planned-fit}
@@ -35,15 +39,18 @@ perform-scripts (w ∷ ws) c fits ok left =
     ∙ write-scripts w c (fits .0) ok first
 
 -- what holds between the commands of a script: a card before it is what a take-back gives
-pub record Holds (before : Card) (s : Session) (card : Card) : Type 0 where
+pub record Holds (before : Card) (s : Session) (bytes : List ℕ) (card : Card) : Type 0 where
   pub sound : soundCard card ≡ true
   pub trial : 1 ≤ scriptsOnTrial (card .journal)
   pub good : Good (card .table) s
+  pub waiting : length bytes ≡ mostWaiting
   pub back : takenBack card ≡ before
 
-module _ (before : Card) (s : Session) (card : Card) (h : Holds before s card) where
+module _ (before : Card) (s : Session) (waiting : List ℕ) (card : Card) (h : Holds before s waiting card) where
   abbrev pub Carries : Plan → Type 0
-  Carries p = Holds before (carriedOut p card .session) (carriedOut p card .card)
+  Carries p =
+      let m : Moved = carriedOut p waiting card in
+      Holds before (m .session) (m .waiting) (m .card)
 
   plan-holds : {c : Command} (p : Plan) → Fit card c p → usedBytes (card .journal) + cost (p .writes) ≤ room (card .journal) → Carries p
   unfolding carriedOut
@@ -55,6 +62,7 @@ module _ (before : Card) (s : Session) (card : Card) (h : Holds before s card) w
         sound = perform-sound (p .writes) card (h .sound) (fit .forms) left (h .trial);
         trial = rw (perform-scripts (p .writes) card fits ok left) (h .trial);
         good = good-kept (card .table) (perform (p .writes) card .table) (rows .count) (rows .alike) (p .session) (fit .good);
+        waiting = let m = fit .made in let w = h .waiting in write-length waiting 0 (p .made) (omega arith) ∙ w;
         back = back-perform (p .writes) card fits ok left ∙ h .back;
       }
 
@@ -65,5 +73,5 @@ module _ (before : Card) (s : Session) (card : Card) (h : Holds before s card) w
       (planned-room format domain c «data» s card (card-parts card (h .sound) .used))
 
   pub failed-holds : (word : ℕ) → Carries (failed s word)
-  unfolding failed carriedOut perform
+  unfolding failed carriedOut perform overwrite
   failed-holds word = h

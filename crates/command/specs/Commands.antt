@@ -2,10 +2,11 @@
 use Prim.Native.Nat.{ℕ, _+_}
 use mathlib.Core.List.{List}
 use mathlib.Core.Option.{Option, none, some}
+use Rattle.octets.specs.Bytes.{overwrite}
 use Rattle.card.specs.Row.{Card}
 use Rattle.journal.specs.Changes.{perform}
 use Rattle.session.specs.declared.Session.{Session}
-use Rattle.session.specs.Session.{start}
+use Rattle.session.specs.Session.{start, startWaiting}
 use Rattle.session.specs.Select.{find}
 use Rattle.command.specs.declared.Format.{Format}
 use Rattle.command.specs.declared.Command.{Command}
@@ -44,30 +45,46 @@ decided w (some k) = failed (w .session) (checkWord k)
 unfoldable pub planned : Situation → Plan
 planned w = decided w (firstFailing w (order (w .command .instruction)))
 
--- a session, an outcome and a card after a command
+-- a session, an outcome, the waiting bytes and a card after a command
 pub record Moved : Type 0 where
   pub session : Session
   pub outcome : Outcome
+  pub waiting : List ℕ
   pub card : Card
 
--- a plan is done
-unfoldable pub carriedOut : Plan → Card → Moved
-carriedOut p card = record { session = p .session; outcome = p .outcome; card = perform (p .writes) card }
+-- a plan is done, with the waiting bytes
+unfoldable pub carriedOut : Plan → List ℕ → Card → Moved
+carriedOut p waiting card =
+    record {
+      session = p .session;
+      outcome = p .outcome;
+      waiting = overwrite waiting 0 (p .made);
+      card = perform (p .writes) card;
+    }
 
--- a script after some commands, and the card
+-- a script after some commands, the waiting bytes, and the card
 pub record State : Type 0 where
   pub step : Step
+  pub waiting : List ℕ
   pub card : Card
 
-abbrev pub stateOf : Step → Card → State
-stateOf step card = record { step = step; card = card }
+abbrev pub stateOf : Step → List ℕ → Card → State
+stateOf step waiting card = record { step = step; waiting = waiting; card = card }
 
 -- "Each script starts afresh."
 unfoldable pub started : ℕ → Card → State
 started application card =
-    record { step = record { session = start application; outcome = Well normal; count = 0 }; card = card }
+    record {
+      step = record { session = start application; outcome = Well normal; count = 0 };
+      waiting = startWaiting;
+      card = card;
+    }
 
 -- one command more; "The count includes the command that stopped it."
 unfoldable pub stepped : State → Moved → State
 stepped st m =
-    record { step = record { session = m .session; outcome = m .outcome; count = st .step .count + 1 }; card = m .card }
+    record {
+      step = record { session = m .session; outcome = m .outcome; count = st .step .count + 1 };
+      waiting = m .waiting;
+      card = m .card;
+    }

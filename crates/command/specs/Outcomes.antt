@@ -6,7 +6,7 @@ use lib.ListN.{length, take}
 use lib.Dec.{leb, eqb}
 use Rattle.octets.specs.Bytes.{part}
 use Rattle.session.specs.declared.Session.{Session}
-use Rattle.session.specs.Session.{dropped, putDown}
+use Rattle.session.specs.Session.{waits, dropped}
 use Rattle.journal.specs.Changes.{Write}
 use Rattle.command.specs.declared.Format.{Format}
 use Rattle.command.specs.declared.Format.the-variants.{Compact, Expanded}
@@ -60,28 +60,29 @@ goesOn word =
     eqb word normal
     || (eqb word endOfData || (eqb word selectedDeactivated || (leb 0x6100 word && leb word 0x61FF)))
 
--- what a command does: the session after it, how it ends, and what it writes
+-- what a command does: the session after it, how it ends, the data that it puts down as the first waiting bytes, and what it writes
 pub record Plan : Type 0 where
   pub session : Session
   pub outcome : Outcome
+  pub made : List ℕ
   pub writes : List Write
 
 -- "or with an error word, changing nothing"
 unfoldable pub failed : Session → ℕ → Plan
-failed s word = record { session = s; outcome = Error word; writes = [] }
+failed s word = record { session = s; outcome = Error word; made = []; writes = [] }
 
 -- well, with a word and no data; what waited is dropped
 unfoldable pub done : Session → ℕ → List Write → Plan
-done s word writes = record { session = dropped s; outcome = Well word; writes = writes }
+done s word writes = record { session = dropped s; outcome = Well word; made = []; writes = writes }
 
 -- well, with a part of the file memory
 unfoldable pub handed : Session → ℕ → ℕ → ℕ → Plan
-handed s word place n = record { session = dropped s; outcome = FromFiles word place n; writes = [] }
+handed s word place n = record { session = dropped s; outcome = FromFiles word place n; made = []; writes = [] }
 
 -- compact: "SELECT with FCP, a successful search and INCREASE leave waiting bytes with their own word kept, and report 61 and
 -- the length"; expanded: the data are handed out at once, and "Nothing ever waits."
 unfoldable pub produced : Format → Session → ℕ → List ℕ → List Write → Plan
 produced Compact s word d writes =
-    record { session = putDown s d (length d) word; outcome = Well (bytesWait (length d)); writes = writes }
+    record { session = waits s (length d) word; outcome = Well (bytesWait (length d)); made = d; writes = writes }
 produced Expanded s word d writes =
-    record { session = putDown s d 0 0; outcome = FromWaiting word (length d); writes = writes }
+    record { session = dropped s; outcome = FromWaiting word (length d); made = d; writes = writes }

@@ -119,7 +119,7 @@ switch state s f =
 -- "C0 GET RESPONSE (compact): the first P3 waiting bytes, 00 all, with the kept word."
 unfoldable pub getResponse : Command → Session → Plan
 getResponse c s =
-    record { session = s; outcome = FromWaiting (s .kept) (pick (eqb (c .p3) 0) (s .valid) (c .p3)); writes = [] }
+    record { session = s; outcome = FromWaiting (s .kept) (pick (eqb (c .p3) 0) (s .valid) (c .p3)); made = []; writes = [] }
 
 -- what an instruction does in a situation where every check holds
 unfoldable pub doneBy : ℕ → Situation → Plan

@@ -35,10 +35,11 @@ ghost use Rattle.command.specs.Checks as spec;
 const LONGEST_INCREASE: usize = 127;
 
 // The case and Lc.
-fn case_fits(c: Command, lc: usize) -> bool
+fn case_fits(i: usize, c: Command, lc: usize) -> bool
+    requires { ⌜ c .instruction ≡ i ⌝ }
     ensures { λ b. ⌜ b ≡ spec.caseFits c lc ⌝ }
 {
-    (c.case == case_of(c.instruction, c.p2)) & !(carries_data(c.instruction) & (lc == 0))
+    (c.case == case_of(i, c.p2)) & !(carries_data(i) & (lc == 0))
 }
 
 // P1P2.
@@ -67,11 +68,11 @@ fn domain_fits(i: usize, domain: usize) -> bool
     (i == GET_RESPONSE) | !(domain == 0xFF)
 }
 
-// The word of the first formal check that fails, or 0.
-pub fn formal_word(c: Command, lc: usize, domain: usize) -> usize
+// The word of the first formal check that fails for a command with its instruction, or 0.
+pub fn formal_word(i: usize, c: Command, lc: usize, domain: usize) -> usize
+    requires { ⌜ c .instruction ≡ i ⌝ }
     ensures { λ n. ⌜ ((w : Situation) → w .command ≡ c → length (w .«data») ≡ lc → w .domain ≡ domain → n ≡ spec.failWord (spec.firstFailing w spec.formalChecks)) ⌝ }
 {
-    let i = c.instruction;
     if !c.whole {
         return 0x6700;
     }
@@ -84,7 +85,7 @@ pub fn formal_word(c: Command, lc: usize, domain: usize) -> usize
     if is_outgoing(i) & c.after {
         return 0x6985;
     }
-    if !case_fits(c, lc) {
+    if !case_fits(i, c, lc) {
         return 0x6700;
     }
     if !parameters_fit(i, c.p1, c.p2) {
@@ -152,11 +153,10 @@ fn offset_fits(i: usize, offset: usize, r: Row) -> bool
 }
 
 // The record.
-fn record_fits(c: Command, number: usize, r: Row) -> bool
-    requires { ⌜ (hasRecords r ≡ true → 1 ≤ r .«record») × (spec.kindFits (c .instruction) r ≡ true) ⌝ }
+fn record_fits(i: usize, c: Command, number: usize, r: Row) -> bool
+    requires { ⌜ (c .instruction ≡ i) × (hasRecords r ≡ true → 1 ≤ r .«record») × (spec.kindFits i r ≡ true) ⌝ }
     ensures { λ b. ⌜ b ≡ spec.recordFits c number r ⌝ }
 {
-    let i = c.instruction;
     if !is_record(i) {
         return true;
     }
@@ -186,13 +186,12 @@ fn length_fits(i: usize, offset: usize, p3: usize, lc: usize, r: Row) -> bool
     true
 }
 
-// The word of the first check of a file command that fails, up to the lengths, or 0. The file is the current one with its row, and
-// the record number is the current one.
-pub fn bound_word(c: Command, lc: usize, file: usize, number: usize, r: Row) -> usize
-    requires { ⌜ (hasRecords r ≡ true → 1 ≤ r .«record») × (c .p1 < 256) × (c .p2 < 256) × (lc < 65536) ⌝ }
+// The word of the first check of a file command with its instruction that fails, up to the lengths, or 0. The file is the current one
+// with its row, and the record number is the current one.
+pub fn bound_word(i: usize, c: Command, lc: usize, file: usize, number: usize, r: Row) -> usize
+    requires { ⌜ (c .instruction ≡ i) × (hasRecords r ≡ true → 1 ≤ r .«record») × (c .p1 < 256) × (c .p2 < 256) × (lc < 65536) ⌝ }
     ensures { λ n. ⌜ ((w : Situation) → w .command ≡ c → length (w .«data») ≡ lc → w .session .file ≡ file → w .session .number ≡ number → w .file .row ≡ r → n ≡ spec.failWord (spec.firstFailing w spec.boundChecks)) ⌝ }
 {
-    let i = c.instruction;
     let offset = c.p1 * 256 + c.p2;
     if file < 1 {
         return 0x6986;
@@ -212,7 +211,7 @@ pub fn bound_word(c: Command, lc: usize, file: usize, number: usize, r: Row) -> 
     if !offset_fits(i, offset, r) {
         return 0x6B00;
     }
-    if !record_fits(c, number, r) {
+    if !record_fits(i, c, number, r) {
         return 0x6A83;
     }
     if !length_fits(i, offset, c.p3, lc, r) {

@@ -11,7 +11,6 @@ use borrow.Author.Tests.{eqb-true, ne-eqb}
 use Rattle.octets.proofs.Picks.{on-pick}
 use Rattle.octets.specs.Choice.{pick}
 use Rattle.octets.specs.Bytes.{overwrite}
-use Rattle.octets.proofs.Writes.{write-length}
 use Rattle.card.specs.declared.Row.{Row}
 use Rattle.card.specs.declared.tree.Found.the-variants.{At}
 use Rattle.card.specs.Row.{entries, rowOf, isCyclic, isDirectory, isFile, hasRecords}
@@ -20,7 +19,7 @@ use Rattle.card.specs.Tree.{isRoot, rootIn, rootOf}
 use Rattle.card.proofs.Promises.{file-kind, records-some, entry-own, first-kind, no-directory-file, parent-directory}
 use Rattle.card.proofs.Kept.{withBytes, changed-entries, row-alike}
 use Rattle.session.specs.declared.Session.{Session}
-use Rattle.session.specs.Session.{none, mostWaiting, start, dropped, putDown, atRecord, moved, selected}
+use Rattle.session.specs.Session.{none, mostWaiting, start, waits, dropped, atRecord, moved, selected}
 use Rattle.session.specs.Select.{find}
 use Rattle.session.specs.Good.{Belongs, GoodFile, Good}
 use Rattle.session.proofs.Owned.{root-belongs, parent-belongs, find-owned}
@@ -36,7 +35,7 @@ root-directory r = either (eqb (r .kind) 1) (eqb (r .kind) 3) (λ e. rw (eqb-tru
 file-no-root : (r : Row) → isFile r ≡ true → isRoot r ≡ false
 file-no-root r h = let k = file-kind r h in rw (ne-eqb (r .kind) 1 (omega arith), ne-eqb (r .kind) 3 (omega arith))
 
--- moves of a good session, and its waiting bytes
+-- moves of a good session, and what waits
 module _ (t : List ℕ) (s : Session) (g : Good t s) where
   good-moved : (d f n : ℕ) → Belongs t (s .root) d → isDirectory (rowOf t d) ≡ true → (1 ≤ f → GoodFile t (s .root) f n) → (f ≡ none → n ≡ none) → Good t (moved s d f n)
   unfolding moved
@@ -48,7 +47,6 @@ module _ (t : List ℕ) (s : Session) (g : Good t s) where
         isDirectory = y;
         file = file;
         unnumbered = unnumbered;
-        waiting = g .waiting;
         valid = g .valid;
       }
 
@@ -64,16 +62,9 @@ module _ (t : List ℕ) (s : Session) (g : Good t s) where
       })
       (λ z. elim (decLt 0 n) [ yes p ↦ let k = h p .0 in absurd (omega arith) | no q ↦ omega arith ])
 
-  waits : (w : List ℕ) (valid kept : ℕ) → length w ≡ mostWaiting → valid ≤ mostWaiting → Good t (record {
-    root = s .root;
-    directory = s .directory;
-    file = s .file;
-    number = s .number;
-    waiting = w;
-    valid = valid;
-    kept = kept;
-  })
-  waits w valid kept h k =
+  pub good-waits : (n word : ℕ) → n ≤ mostWaiting → Good t (waits s n word)
+  unfolding waits
+  good-waits n word h =
       record {
         rootInside = g .rootInside;
         root = g .root;
@@ -81,19 +72,11 @@ module _ (t : List ℕ) (s : Session) (g : Good t s) where
         isDirectory = g .isDirectory;
         file = g .file;
         unnumbered = g .unnumbered;
-        waiting = h;
-        valid = k;
+        valid = h;
       }
 
   pub good-dropped : Good t (dropped s)
-  unfolding dropped
-  good-dropped = waits (s .waiting) 0 0 (g .waiting) (omega arith)
-
-  pub good-put : (d : List ℕ) (n word : ℕ) → length d ≤ mostWaiting → n ≤ mostWaiting → Good t (putDown s d n word)
-  unfolding putDown
-  good-put d n word h k =
-      let w = g .waiting in
-      waits (overwrite (s .waiting) 0 d) n word (write-length (s .waiting) 0 d (omega arith) ∙ w) k
+  good-dropped = good-waits 0 0 (omega arith)
 
 -- a table with the same entries, but for the bytes of the newest record and of the state
 module _ (t u : List ℕ) (count : entries u ≡ entries t) (alike : (d : ℕ) → rowOf u d ≡ withBytes (rowOf t d) (rowOf u d .newest) (rowOf u d .state)) where
@@ -120,7 +103,6 @@ module _ (t u : List ℕ) (count : entries u ≡ entries t) (alike : (d : ℕ) �
           within = λ p. rw (ap recordCount (alike (s .file))) (g .file h .within p);
         };
         unnumbered = g .unnumbered;
-        waiting = g .waiting;
         valid = g .valid;
       }
 
@@ -140,7 +122,6 @@ module _ (t files : List ℕ) (sound : soundTable t files ≡ true) where
         isDirectory = root-directory (rowOf t a) y;
         file = λ h. absurd (omega arith);
         unnumbered = λ h. refl;
-        waiting = refl;
         valid = omega arith;
       }
 

@@ -3,7 +3,6 @@ use Prim.Native.Nat.{ℕ, _≤_, _<_}
 use mathlib.Core.Bool.{true}
 use mathlib.Core.Path.{_≡_}
 use mathlib.Core.List.{List}
-use lib.ListN.{length}
 use Rattle.card.specs.Row.{entries, rowOf, isDirectory, isFile, hasRecords}
 use Rattle.card.specs.Sound.{recordCount}
 use Rattle.card.specs.Tree.{isRoot, rootOf}
@@ -29,5 +28,4 @@ pub record Good (t : List ℕ) (s : Session) : Type 0 where
   pub isDirectory : isDirectory (rowOf t (s .directory)) ≡ true
   pub file : 1 ≤ s .file → GoodFile t (s .root) (s .file) (s .number)
   pub unnumbered : s .file ≡ none → s .number ≡ none
-  pub waiting : length (s .waiting) ≡ mostWaiting
   pub valid : s .valid ≤ mostWaiting

@@ -2,12 +2,12 @@
 use Prim.Native.Nat.{ℕ}
 use mathlib.Core.List.{List}
 use Rattle.octets.specs.Choice.{pick}
-use Rattle.octets.specs.Bytes.{overwrite, zeros}
+use Rattle.octets.specs.Bytes.{zeros}
 use Rattle.card.specs.declared.Row.{Row}
 use Rattle.card.specs.Row.{isDirectory, isCyclic}
 use Rattle.session.specs.declared.Session.{Session}
 
--- "A session starts with 255 waiting bytes of zero"
+-- how many bytes can wait
 abbrev pub mostWaiting : ℕ
 mostWaiting = 255
 
@@ -24,36 +24,29 @@ start application =
       directory = application;
       file = none;
       number = none;
-      waiting = zeros mostWaiting;
       valid = 0;
       kept = 0;
     }
 
--- "the next command drops what waited"
-unfoldable pub dropped : Session → Session
-dropped s =
+-- "A session starts with 255 waiting bytes of zero"
+unfoldable pub startWaiting : List ℕ
+startWaiting = zeros mostWaiting
+
+-- so many of the waiting bytes wait, with a word kept
+unfoldable pub waits : Session → ℕ → ℕ → Session
+waits s valid word =
     record {
       root = s .root;
       directory = s .directory;
       file = s .file;
       number = s .number;
-      waiting = s .waiting;
-      valid = 0;
-      kept = 0;
-    }
-
--- data are put down as the session's first waiting bytes, and so many of them wait, with a word kept
-unfoldable pub putDown : Session → List ℕ → ℕ → ℕ → Session
-putDown s d valid word =
-    record {
-      root = s .root;
-      directory = s .directory;
-      file = s .file;
-      number = s .number;
-      waiting = overwrite (s .waiting) 0 d;
       valid = valid;
       kept = word;
     }
+
+-- "the next command drops what waited"
+abbrev pub dropped : Session → Session
+dropped s = waits s 0 0
 
 -- the record number moves
 unfoldable pub atRecord : Session → ℕ → Session
@@ -63,7 +56,6 @@ atRecord s number =
       directory = s .directory;
       file = s .file;
       number = number;
-      waiting = s .waiting;
       valid = s .valid;
       kept = s .kept;
     }
@@ -76,7 +68,6 @@ moved s directory file number =
       directory = directory;
       file = file;
       number = number;
-      waiting = s .waiting;
       valid = s .valid;
       kept = s .kept;
     }

@@ -4,83 +4,79 @@ pub mod select;
 
 use card::Row;
 ghost use mathlib.Core.Path.{_≡_};
-ghost use Prim.Native.Nat.{_≤_};
-ghost use lib.ListN.{length};
+ghost use Prim.Native.Nat.{_<_};
 ghost use Rattle.session.specs.Session as spec;
 
-// Where a script stands: entry numbers of its root, its directory and its file (0: none), the record number (0: none),
-// and the waiting bytes, of which the first `valid` wait, with the word that is kept for them.
+// Where a script stands: entry numbers of its root, its directory and its file (0: none), the record number (0: none), how many of
+// the waiting bytes wait, and the word that is kept for them. The waiting bytes are lent beside it.
 pub struct Session {
-    pub root: usize,
-    pub directory: usize,
-    pub file: usize,
-    pub number: usize,
-    pub waiting: [u8; 255],
-    pub valid: usize,
-    pub kept: usize,
+    pub root: u8,
+    pub directory: u8,
+    pub file: u8,
+    pub number: u8,
+    pub valid: u8,
+    pub kept: u16,
 }
 
 // The session that a script of an application starts with.
 pub fn start(application: usize) -> Session
+    requires { ⌜ application < 256 ⌝ }
     ensures { λ s. ⌜ s ≡ spec.start application ⌝ }
 {
+    let root = application as u8;
     Session {
-        root: application,
-        directory: application,
+        root,
+        directory: root,
         file: 0,
         number: 0,
-        waiting: [0; 255],
         valid: 0,
         kept: 0,
     }
+}
+
+// So many bytes wait, with a word kept.
+pub fn waits(s: Session, valid: usize, word: usize) -> Session
+    requires { ⌜ (valid < 256) × (word < 65536) ⌝ }
+    ensures { λ r. ⌜ r ≡ spec.waits s valid word ⌝ }
+{
+    let mut next = s;
+    next.valid = valid as u8;
+    next.kept = word as u16;
+    next
 }
 
 // What waited is dropped.
 pub fn dropped(s: Session) -> Session
     ensures { λ r. ⌜ r ≡ spec.dropped s ⌝ }
 {
-    let mut next = s;
-    next.valid = 0;
-    next.kept = 0;
-    next
-}
-
-// Data are put down as the first waiting bytes, and so many of them wait, with a word kept.
-pub fn put_down(s: Session, d: &[u8], valid: usize, word: usize) -> Session
-    requires { ⌜ length (now d) ≤ 255 ⌝ }
-    ensures { λ r. ⌜ r ≡ spec.putDown s (now (d .entry)) valid word ⌝ }
-{
-    let mut waiting = s.waiting;
-    octets::copy(&mut waiting, 0, d);
-    let mut next = s;
-    next.waiting = waiting;
-    next.valid = valid;
-    next.kept = word;
-    next
+    waits(s, 0, 0)
 }
 
 // The record number moves.
 pub fn at_record(s: Session, number: usize) -> Session
+    requires { ⌜ number < 256 ⌝ }
     ensures { λ r. ⌜ r ≡ spec.atRecord s number ⌝ }
 {
     let mut next = s;
-    next.number = number;
+    next.number = number as u8;
     next
 }
 
 // Directory, file and record number move.
-fn moved(s: Session, directory: usize, file: usize, number: usize) -> Session
+fn moved(s: Session, directory: usize, file: usize, number: u8) -> Session
+    requires { ⌜ (directory < 256) × (file < 256) ⌝ }
     ensures { λ r. ⌜ r ≡ spec.moved s directory file number ⌝ }
 {
     let mut next = s;
-    next.directory = directory;
-    next.file = file;
+    next.directory = directory as u8;
+    next.file = file as u8;
     next.number = number;
     next
 }
 
 // The session after an entry with its row was selected.
 pub fn selected(s: Session, e: usize, r: Row) -> Session
+    requires { ⌜ (e < 256) × (r .parent < 256) ⌝ }
     ensures { λ n. ⌜ n ≡ spec.selected s e r ⌝ }
 {
     if card::rules::is_directory(r) {

@@ -26,23 +26,23 @@ past-file c w e l f n r = passes w _ _ (rw f (le-leb _ _ (c .if1 .left)))
 
 past-kind : (c : tie.Else2) → Past (c .before .before .before .before .before) 2
 unfolding holds boundChecks
-past-kind c w e l f n r = past-file (c .before .before) w e l f n r ∙ passes w _ _ (rw (e, r, ← (c .before .kind-fits .ensures)) (not-false _ (c .if2 .left)))
+past-kind c w e l f n r = past-file (c .before .before) w e l f n r ∙ passes w _ _ (rw (e, c .before .before .before .before .before .pre .0, r, ← (c .before .kind-fits .ensures)) (not-false _ (c .if2 .left)))
 
 past-mode : (c : tie.Else3) → Past (c .before .before .before .before .before .before .before) 3
 unfolding holds boundChecks
-past-mode c w e l f n r = past-kind (c .before .before) w e l f n r ∙ passes w _ _ (rw (e, r, ← (c .before .mode-fits .ensures)) (not-false _ (c .if3 .left)))
+past-mode c w e l f n r = past-kind (c .before .before) w e l f n r ∙ passes w _ _ (rw (e, c .before .before .before .before .before .before .before .pre .0, r, ← (c .before .mode-fits .ensures)) (not-false _ (c .if3 .left)))
 
 past-state : (c : tie.Else4) → Past (c .before .before .before .before .before .before .before .before .before) 4
 unfolding holds boundChecks
-past-state c w e l f n r = past-mode (c .before .before) w e l f n r ∙ passes w _ _ (rw (e, r, ← (c .before .state-fits .ensures)) (not-false _ (c .if4 .left)))
+past-state c w e l f n r = past-mode (c .before .before) w e l f n r ∙ passes w _ _ (rw (e, c .before .before .before .before .before .before .before .before .before .pre .0, r, ← (c .before .state-fits .ensures)) (not-false _ (c .if4 .left)))
 
 past-never : (c : tie.Else5) → Past (c .before .before .before .before .before .before .before .before .before .before .before) 5
 unfolding holds boundChecks
-past-never c w e l f n r = past-state (c .before .before) w e l f n r ∙ passes w _ _ (rw (e, r, ← (c .before .never-fits .ensures)) (not-false _ (c .if5 .left)))
+past-never c w e l f n r = past-state (c .before .before) w e l f n r ∙ passes w _ _ (rw (e, c .before .before .before .before .before .before .before .before .before .before .before .pre .0, r, ← (c .before .never-fits .ensures)) (not-false _ (c .if5 .left)))
 
 past-offset : (c : tie.Else6) → Past (c .before .before .before .before .before .before .before .before .before .before .before .before .before) 6
 unfolding holds boundChecks offsetOf
-past-offset c w e l f n r = past-never (c .before .before) w e l f n r ∙ passes w _ _ (rw (e, r, ← (c .before .offset-fits .ensures)) (not-false _ (c .if6 .left)))
+past-offset c w e l f n r = past-never (c .before .before) w e l f n r ∙ passes w _ _ (rw (e, c .before .before .before .before .before .before .before .before .before .before .before .before .before .pre .0, r, ← (c .before .offset-fits .ensures)) (not-false _ (c .if6 .left)))
 
 past-record : (c : tie.Else7) → Past (c .before .before .before .before .before .before .before .before .before .before .before .before .before .before .before) 7
 unfolding holds boundChecks
@@ -50,7 +50,7 @@ past-record c w e l f n r = past-offset (c .before .before) w e l f n r ∙ pass
 
 past-length : (c : tie.Else8) → Past (c .before .before .before .before .before .before .before .before .before .before .before .before .before .before .before .before .before) 8
 unfolding holds boundChecks offsetOf
-past-length c w e l f n r = past-record (c .before .before) w e l f n r ∙ passes w _ _ (rw (e, l, r, ← (c .before .length-fits .ensures)) (not-false _ (c .if8 .left)))
+past-length c w e l f n r = past-record (c .before .before) w e l f n r ∙ passes w _ _ (rw (e, c .before .before .before .before .before .before .before .before .before .before .before .before .before .before .before .before .before .pre .0, l, r, ← (c .before .length-fits .ensures)) (not-false _ (c .if8 .left)))
 
 returns : tie.Need-returns
 unfolding holds boundChecks checkWord
@@ -61,38 +61,38 @@ kind-fits-requires c κs = search needs
 
 returns-2 : tie.Need-returns-2
 unfolding holds boundChecks checkWord
-returns-2 c w e l f n r = fails w _ _ _ (past-file (c .before .before) w e l f n r) (rw (e, r, ← (c .before .kind-fits .ensures)) (not-true _ (c .if2 .taken)))
+returns-2 c w e l f n r = fails w _ _ _ (past-file (c .before .before) w e l f n r) (rw (e, c .before .before .before .before .before .pre .0, r, ← (c .before .kind-fits .ensures)) (not-true _ (c .if2 .taken)))
 
 mode-fits-requires : tie.Need-mode-fits-requires
 mode-fits-requires c κs = search needs
 
 returns-3 : tie.Need-returns-3
 unfolding holds boundChecks checkWord
-returns-3 c w e l f n r = fails w _ _ _ (past-kind (c .before .before) w e l f n r) (rw (e, r, ← (c .before .mode-fits .ensures)) (not-true _ (c .if3 .taken)))
+returns-3 c w e l f n r = fails w _ _ _ (past-kind (c .before .before) w e l f n r) (rw (e, c .before .before .before .before .before .before .before .pre .0, r, ← (c .before .mode-fits .ensures)) (not-true _ (c .if3 .taken)))
 
 state-fits-requires : tie.Need-state-fits-requires
 state-fits-requires c κs = search needs
 
 returns-4 : tie.Need-returns-4
 unfolding holds boundChecks checkWord
-returns-4 c w e l f n r = fails w _ _ _ (past-mode (c .before .before) w e l f n r) (rw (e, r, ← (c .before .state-fits .ensures)) (not-true _ (c .if4 .taken)))
+returns-4 c w e l f n r = fails w _ _ _ (past-mode (c .before .before) w e l f n r) (rw (e, c .before .before .before .before .before .before .before .before .before .pre .0, r, ← (c .before .state-fits .ensures)) (not-true _ (c .if4 .taken)))
 
 never-fits-requires : tie.Need-never-fits-requires
 never-fits-requires c κs = search needs
 
 returns-5 : tie.Need-returns-5
 unfolding holds boundChecks checkWord
-returns-5 c w e l f n r = fails w _ _ _ (past-state (c .before .before) w e l f n r) (rw (e, r, ← (c .before .never-fits .ensures)) (not-true _ (c .if5 .taken)))
+returns-5 c w e l f n r = fails w _ _ _ (past-state (c .before .before) w e l f n r) (rw (e, c .before .before .before .before .before .before .before .before .before .before .before .pre .0, r, ← (c .before .never-fits .ensures)) (not-true _ (c .if5 .taken)))
 
 offset-fits-requires : tie.Need-offset-fits-requires
 offset-fits-requires c κs = search needs
 
 returns-6 : tie.Need-returns-6
 unfolding holds boundChecks checkWord offsetOf
-returns-6 c w e l f n r = fails w _ _ _ (past-never (c .before .before) w e l f n r) (rw (e, r, ← (c .before .offset-fits .ensures)) (not-true _ (c .if6 .taken)))
+returns-6 c w e l f n r = fails w _ _ _ (past-never (c .before .before) w e l f n r) (rw (e, c .before .before .before .before .before .before .before .before .before .before .before .before .before .pre .0, r, ← (c .before .offset-fits .ensures)) (not-true _ (c .if6 .taken)))
 
 record-fits-requires : tie.Need-record-fits-requires
-record-fits-requires c κs = (c .before .before .before .before .before .before .before .before .before .before .before .before .before .pre .0, told (c .before .before .before .before .before .before .before .before .before .kind-fits .ensures) (not-false _ (c .before .before .before .before .before .before .before .before .if2 .left)))
+record-fits-requires c κs = (c .before .before .before .before .before .before .before .before .before .before .before .before .before .pre .0, c .before .before .before .before .before .before .before .before .before .before .before .before .before .pre .1, told (c .before .before .before .before .before .before .before .before .before .kind-fits .ensures) (not-false _ (c .before .before .before .before .before .before .before .before .if2 .left)))
 
 returns-7 : tie.Need-returns-7
 unfolding holds boundChecks checkWord
@@ -103,7 +103,7 @@ length-fits-requires c κs = search needs
 
 returns-8 : tie.Need-returns-8
 unfolding holds boundChecks checkWord offsetOf
-returns-8 c w e l f n r = fails w _ _ _ (past-record (c .before .before) w e l f n r) (rw (e, l, r, ← (c .before .length-fits .ensures)) (not-true _ (c .if8 .taken)))
+returns-8 c w e l f n r = fails w _ _ _ (past-record (c .before .before) w e l f n r) (rw (e, c .before .before .before .before .before .before .before .before .before .before .before .before .before .before .before .before .before .pre .0, l, r, ← (c .before .length-fits .ensures)) (not-true _ (c .if8 .taken)))
 
 returns-9 : tie.Need-returns-9
 unfolding boundChecks

@@ -20,15 +20,15 @@ past-form c w e l d = passes w _ _ (rw e (not-false _ (c .if1 .left)))
 
 past-instruction : (c : tie.Else2) → Past (c .before .before .before .before) 2
 unfolding holds formalChecks
-past-instruction c w e l d = past-form (c .before .before) w e l d ∙ passes w _ _ (rw (e, ← (c .before .is-known .ensures)) (not-false _ (c .if2 .left)))
+past-instruction c w e l d = past-form (c .before .before) w e l d ∙ passes w _ _ (rw (e, c .before .before .before .before .pre, ← (c .before .is-known .ensures)) (not-false _ (c .if2 .left)))
 
 past-class : (c : tie.Else3) → Past (c .before .before .before .before .before .before .before) 3
 unfolding holds formalChecks
-past-class c w e l d = past-instruction (c .before .before .before) w e l d ∙ passes w _ _ (rw (e, ← (c .before .before .class-of .ensures)) (eq-eqb _ _ (c .if3 .left)))
+past-class c w e l d = past-instruction (c .before .before .before) w e l d ∙ passes w _ _ (rw (e, c .before .before .before .before .before .before .before .pre, ← (c .before .before .class-of .ensures)) (eq-eqb _ _ (c .if3 .left)))
 
 past-after : (c : tie.Else4) → Past (c .before .before .before .before .before .before .before .before .before .before) 4
 unfolding holds formalChecks
-past-after c w e l d = past-class (c .before .before .before) w e l d ∙ passes w _ _ (rw (e, ← (c .before .before .is-outgoing .ensures), c .if4 .left))
+past-after c w e l d = past-class (c .before .before .before) w e l d ∙ passes w _ _ (rw (e, c .before .before .before .before .before .before .before .before .before .before .pre, ← (c .before .before .is-outgoing .ensures), c .if4 .left))
 
 past-case : (c : tie.Else5) → Past (c .before .before .before .before .before .before .before .before .before .before .before .before) 5
 unfolding holds formalChecks
@@ -36,11 +36,11 @@ past-case c w e l d = past-after (c .before .before) w e l d ∙ passes w _ _ (r
 
 past-parameters : (c : tie.Else6) → Past (c .before .before .before .before .before .before .before .before .before .before .before .before .before .before) 6
 unfolding holds formalChecks
-past-parameters c w e l d = past-case (c .before .before) w e l d ∙ passes w _ _ (rw (e, ← (c .before .parameters-fit .ensures)) (not-false _ (c .if6 .left)))
+past-parameters c w e l d = past-case (c .before .before) w e l d ∙ passes w _ _ (rw (e, c .before .before .before .before .before .before .before .before .before .before .before .before .before .before .pre, ← (c .before .parameters-fit .ensures)) (not-false _ (c .if6 .left)))
 
 past-domain : (c : tie.Else7) → Past (c .before .before .before .before .before .before .before .before .before .before .before .before .before .before .before .before) 7
 unfolding holds formalChecks
-past-domain c w e l d = past-parameters (c .before .before) w e l d ∙ passes w _ _ (rw (e, d, ← (c .before .domain-fits .ensures)) (not-false _ (c .if7 .left)))
+past-domain c w e l d = past-parameters (c .before .before) w e l d ∙ passes w _ _ (rw (e, c .before .before .before .before .before .before .before .before .before .before .before .before .before .before .before .before .pre, d, ← (c .before .domain-fits .ensures)) (not-false _ (c .if7 .left)))
 
 returns : tie.Need-returns
 unfolding holds formalChecks checkWord
@@ -51,21 +51,21 @@ is-known-requires c κs = search needs
 
 returns-2 : tie.Need-returns-2
 unfolding holds formalChecks checkWord
-returns-2 c w e l d = fails w _ _ _ (past-form (c .before .before) w e l d) (rw (e, ← (c .before .is-known .ensures)) (not-true _ (c .if2 .taken)))
+returns-2 c w e l d = fails w _ _ _ (past-form (c .before .before) w e l d) (rw (e, c .before .before .before .before .pre, ← (c .before .is-known .ensures)) (not-true _ (c .if2 .taken)))
 
 class-of-requires : tie.Need-class-of-requires
 class-of-requires c κs = search needs
 
 returns-3 : tie.Need-returns-3
 unfolding holds formalChecks checkWord
-returns-3 c w e l d = fails w _ _ _ (past-instruction (c .before .before .before) w e l d) (rw (e, ← (c .before .before .class-of .ensures)) (ne-eqb _ _ (c .if3 .taken)))
+returns-3 c w e l d = fails w _ _ _ (past-instruction (c .before .before .before) w e l d) (rw (e, c .before .before .before .before .before .before .before .pre, ← (c .before .before .class-of .ensures)) (ne-eqb _ _ (c .if3 .taken)))
 
 is-outgoing-requires : tie.Need-is-outgoing-requires
 is-outgoing-requires c κs = search needs
 
 returns-4 : tie.Need-returns-4
 unfolding holds formalChecks checkWord
-returns-4 c w e l d = fails w _ _ _ (past-class (c .before .before .before) w e l d) (rw (e, ← (c .before .before .is-outgoing .ensures), c .if4 .taken))
+returns-4 c w e l d = fails w _ _ _ (past-class (c .before .before .before) w e l d) (rw (e, c .before .before .before .before .before .before .before .before .before .before .pre, ← (c .before .before .is-outgoing .ensures), c .if4 .taken))
 
 case-fits-requires : tie.Need-case-fits-requires
 case-fits-requires c κs = search needs
@@ -79,14 +79,14 @@ parameters-fit-requires c κs = search needs
 
 returns-6 : tie.Need-returns-6
 unfolding holds formalChecks checkWord
-returns-6 c w e l d = fails w _ _ _ (past-case (c .before .before) w e l d) (rw (e, ← (c .before .parameters-fit .ensures)) (not-true _ (c .if6 .taken)))
+returns-6 c w e l d = fails w _ _ _ (past-case (c .before .before) w e l d) (rw (e, c .before .before .before .before .before .before .before .before .before .before .before .before .before .before .pre, ← (c .before .parameters-fit .ensures)) (not-true _ (c .if6 .taken)))
 
 domain-fits-requires : tie.Need-domain-fits-requires
 domain-fits-requires c κs = search needs
 
 returns-7 : tie.Need-returns-7
 unfolding holds formalChecks checkWord
-returns-7 c w e l d = fails w _ _ _ (past-parameters (c .before .before) w e l d) (rw (e, d, ← (c .before .domain-fits .ensures)) (not-true _ (c .if7 .taken)))
+returns-7 c w e l d = fails w _ _ _ (past-parameters (c .before .before) w e l d) (rw (e, c .before .before .before .before .before .before .before .before .before .before .before .before .before .before .before .before .pre, d, ← (c .before .domain-fits .ensures)) (not-true _ (c .if7 .taken)))
 
 returns-8 : tie.Need-returns-8
 unfolding formalChecks

@@ -1,6 +1,15 @@
 -- `command::checks::record_fits` meets its contract: each arm is the one that the definition picks, and a file that a record command has passed has records. Assumes nothing.
+use mathlib.Core.Path.{_≡_, ap, subst, _∙_}
+use mathlib.Core.Bool.{true, false, _&&_}
+use Prim.Native.Nat.{ℕ}
+use lib.Dec.{eqb}
 use borrow.Author.Tests.{not-true, not-false}
+use Rattle.card.specs.declared.Row.{Row}
 use Rattle.command.proofs.Order.{told, record-kind}
+use Rattle.command.specs.declared.Command.{Command}
+use Rattle.command.specs.Instructions.{isRecord}
+use Rattle.command.specs.Files.{hasRecord}
+use Rattle.command.specs.Plans.{namedBy}
 use Rattle.command.specs.Checks.{recordFits}
 use borrow.Author.Needs.{needs}
 use Rattle.command.proofs.checks.record_fits.Statement.{statement}
@@ -11,21 +20,29 @@ is-record-requires c κs = search needs
 
 returns : tie.Need-returns
 unfolding recordFits
-returns c = rw (← (c .before .is-record .ensures), not-true (c .before .is-record .result) (c .if1 .taken))
+returns c = rw (c .before .before .pre .0, ← (c .before .is-record .ensures), not-true (c .before .is-record .result) (c .if1 .taken))
 
 returns-2 : tie.Need-returns-2
 unfolding recordFits
-returns-2 c = rw (← (c .before .before .before .is-record .ensures), not-false (c .before .before .before .is-record .result) (c .before .before .if1 .left), c .if2 .taken)
+returns-2 c = rw (c .before .before .before .before .pre .0, ← (c .before .before .before .is-record .ensures), not-false (c .before .before .before .is-record .result) (c .before .before .if1 .left), c .if2 .taken)
 
 record-of-requires : tie.Need-record-of-requires
-record-of-requires c κs = c .before .before .before .before .pre .0 (record-kind _ _ (told (c .before .before .before .is-record .ensures) (not-false _ (c .before .before .if1 .left))) (c .before .before .before .before .pre .1))
+record-of-requires c κs = c .before .before .before .before .pre .1 (record-kind _ _ (told (c .before .before .before .is-record .ensures) (not-false _ (c .before .before .if1 .left))) (c .before .before .before .before .pre .2))
 
 has-record-requires : tie.Need-has-record-requires
 has-record-requires c κs = record-of-requires (c .before) κs
 
-returns-3 : tie.Need-returns-3
+-- a command that names its record
+named : (c : Command) (n : ℕ) (r : Row) {i : ℕ} → c .instruction ≡ i → isRecord i ≡ true → (eqb i 0xDC && eqb (r .kind) 6) ≡ false → hasRecord r (namedBy c n r) ≡ recordFits c n r
 unfolding recordFits
-returns-3 c = rw (← (c .before .before .before .before .before .is-record .ensures), not-false (c .before .before .before .before .before .is-record .result) (c .before .before .before .before .if1 .left), c .before .before .if2 .left, c .has-record .ensures, c .before .record-of .ensures)
+named c n r e = subst (λ i. isRecord i ≡ true → (eqb i 0xDC && eqb (r .kind) 6) ≡ false → hasRecord r (namedBy c n r) ≡ recordFits c n r) e (λ y z. rw (y, z))
+
+returns-3 : tie.Need-returns-3
+returns-3 c =
+    let s = c .before .before .before .before .before .before in
+    c .has-record .ensures
+    ∙ ap (hasRecord (s .args .r)) (c .before .record-of .ensures)
+    ∙ named (s .args .c) (s .args .number) (s .args .r) (s .pre .0) (told (c .before .before .before .before .before .is-record .ensures) (not-false _ (c .before .before .before .before .if1 .left))) (c .before .before .if2 .left)
 
 pub record-fits-spec : {M : Type 1} → statement M
 record-fits-spec =

@@ -4,7 +4,7 @@ use mathlib.Core.List.{List}
 use Prim.Native.Nat.{ℕ, _+_, _-_, _≤_}
 use native.Mathlib.Omega.{arith}
 use Rattle.octets.specs.Bytes.{part, contains}
-use Rattle.octets.proofs.Writes.{part-part}
+use Rattle.octets.proofs.Writes.{part-lent, part-part}
 use Rattle.command.specs.Files.{recordBytes}
 use borrow.Author.Needs.{needs}
 use Rattle.command.proofs.search.record_contains.Statement.{statement}
@@ -32,9 +32,7 @@ within-requires : tie.Need-within-requires
 within-requires c κs = search needs
 
 lies : (files : List ℕ) (start size off n : ℕ) → off + n ≤ size → part files (start + off) (start + off + n - (start + off)) ≡ part (part files start size) off n
-lies files start size off n h =
-    let e : start + off + n - (start + off) ≡ n = omega arith in
-    rw e (sym (part-part files start size off n h))
+lies files start size off n h = part-lent files (start + off) n ∙ sym (part-part files start size off n h)
 
 returns : tie.Need-returns
 unfolding recordBytes
