@@ -12,7 +12,7 @@ use Rattle.card.specs.Row.{Card}
 use Rattle.command.specs.declared.Reading.{Reading}
 use Rattle.command.specs.Outcomes.{wordOf, goesOn}
 use Rattle.command.specs.Commands.{State, started, stepped}
-use Rattle.compact.specs.Compact.{headerSize, broken, wholeAt, headedAt, readAt, placeAfter, stepAt, runFrom, run}
+use Rattle.compact.specs.Compact.{headerSize, broken, wholeAt, headedAt, readAt, placeAfter, stepRead, stepAt, runFrom, run}
 use Rattle.compact.proofs.Going.{nothing-left}
 
 module _ (script : List ℕ) (application domain : ℕ) (card : Card) where
@@ -44,7 +44,7 @@ module _ (script : List ℕ) (application domain : ℕ) (card : Card) where
       subst Few (sym (nothing-left script application domain card n _ next (behind at .last (leb-false (at + 5) (placeAfter (readAt script at)) e)))) (omega arith)
 
   run-few : (n at : ℕ) (st : State) → at ≤ length script → 5 * st .step .count ≤ at → Few (runFrom n script domain at st)
-  unfolding runFrom stepAt stepped
+  unfolding runFrom stepRead stepped
   run-few zero at st inside few = omega arith
   run-few (suc n) at st inside few =
       on-test Few (ltb at (length script)) _ st

@@ -7,14 +7,14 @@ use lib.ListN.{length}
 use Rattle.octets.proofs.Picks.{on-pick, on-test}
 use Rattle.octets.specs.Bytes.{byte}
 use Rattle.card.specs.Row.{Card}
-use Rattle.session.specs.Session.{start}
+use Rattle.session.specs.Session.{start, startWaiting}
 use Rattle.command.specs.declared.Format.the-variants.{Compact}
 use Rattle.command.specs.declared.Reading.{Reading}
 use Rattle.command.specs.Outcomes.{wordOf, goesOn, OutcomeFits}
 use Rattle.command.specs.Commands.{State, started, carriedOut, stepped}
 use Rattle.command.proofs.Keeps.{Holds}
 use Rattle.command.proofs.Handed.{outcome-fits}
-use Rattle.compact.specs.Compact.{broken, wholeAt, headedAt, readAt, placeAfter, stepAt, runFrom, run}
+use Rattle.compact.specs.Compact.{broken, wholeAt, headedAt, readAt, placeAfter, stepRead, stepAt, runFrom, run}
 use Rattle.compact.proofs.Runs.{brief, step-holds}
 
 module _ (script : List ℕ) (small : (i : ℕ) → byte script i < 256) where
@@ -31,11 +31,11 @@ module _ (script : List ℕ) (small : (i : ℕ) → byte script i < 256) where
     Fits st = OutcomeFits (length (st .card .files)) (st .step .outcome)
 
     abbrev Kept : State → Type 0
-    Kept st = Holds before (st .step .session) (st .card)
+    Kept st = Holds before (st .step .session) (st .waiting) (st .card)
 
     step-fits : (at : ℕ) (st : State) → Kept st → Fits (stepAt script domain at st)
-    unfolding stepAt stepped carriedOut
-    step-fits at st h = outcome-fits (st .step .session) (st .card) (h .sound) (h .good) Compact domain (readAt script at .command) _ (brief script small at) (p3-byte at)
+    unfolding stepRead stepped carriedOut
+    step-fits at st h = outcome-fits (st .step .session) (st .card) (h .sound) (h .good) Compact domain (readAt script at .command) _ (brief script small at) (p3-byte at) (st .waiting)
 
     run-fits : (n at : ℕ) (st : State) → Kept st → Fits st → Fits (runFrom n script domain at st)
     unfolding runFrom
@@ -46,6 +46,6 @@ module _ (script : List ℕ) (small : (i : ℕ) → byte script i < 256) where
         (λ y. on-test Fits (goesOn (wordOf (next .step .outcome))) _ next (λ g. run-fits n (placeAfter (readAt script at)) next (step-holds script small before domain at st h) (step-fits at st h)) (λ g. step-fits at st h))
         (λ y. f)
 
-  pub outcome-inside : (before : Card) (application domain : ℕ) (card : Card) → Holds before (start application) card → OutcomeFits (length (run script application domain card .card .files)) (run script application domain card .step .outcome)
+  pub outcome-inside : (before : Card) (application domain : ℕ) (card : Card) → Holds before (start application) startWaiting card → OutcomeFits (length (run script application domain card .card .files)) (run script application domain card .step .outcome)
   unfolding run started OutcomeFits
   outcome-inside before application domain card h = run-fits before domain (length script) 0 (started application card) h tt

@@ -1,4 +1,4 @@
--- A compact script of bytes keeps its card sound, scripts on trial, its session good, and what a take-back gives. Assumes nothing.
+-- A compact script of bytes keeps its card sound, scripts on trial, its session good, 255 waiting bytes, and what a take-back gives. Assumes nothing.
 use mathlib.Core.List.{List}
 use Prim.Native.Nat.{ℕ, zero, suc, _+_, _≤_, _<_}
 use native.Mathlib.Omega.{arith}
@@ -7,14 +7,14 @@ use lib.ListN.{length, length-take}
 use Rattle.octets.proofs.Picks.{on-pick, on-test}
 use Rattle.octets.specs.Bytes.{byte, part}
 use Rattle.card.specs.Row.{Card}
-use Rattle.session.specs.Session.{start}
+use Rattle.session.specs.Session.{start, startWaiting}
 use Rattle.command.specs.declared.Format.the-variants.{Compact}
 use Rattle.command.specs.declared.Reading.{Reading}
 use Rattle.command.specs.Instructions.{carriesData}
 use Rattle.command.specs.Outcomes.{wordOf, goesOn}
 use Rattle.command.specs.Commands.{State, started, stepped}
 use Rattle.command.proofs.Keeps.{Holds, command-holds}
-use Rattle.compact.specs.Compact.{dataBehind, broken, wholeAt, headedAt, readAt, placeAfter, stepAt, runFrom, run}
+use Rattle.compact.specs.Compact.{dataBehind, broken, wholeAt, headedAt, readAt, placeAfter, stepRead, stepAt, runFrom, run}
 
 module _ (script : List ℕ) (small : (i : ℕ) → byte script i < 256) where
   few : (at : ℕ) → readAt script at .count ≤ 255
@@ -30,11 +30,11 @@ module _ (script : List ℕ) (small : (i : ℕ) → byte script i < 256) where
 
   module _ (before : Card) (domain : ℕ) where
     abbrev Kept : State → Type 0
-    Kept st = Holds before (st .step .session) (st .card)
+    Kept st = Holds before (st .step .session) (st .waiting) (st .card)
 
     pub step-holds : (at : ℕ) (st : State) → Kept st → Kept (stepAt script domain at st)
-    unfolding stepAt stepped
-    step-holds at st h = command-holds before (st .step .session) (st .card) h Compact domain (readAt script at .command) _ (brief at)
+    unfolding stepRead stepped
+    step-holds at st h = command-holds before (st .step .session) (st .waiting) (st .card) h Compact domain (readAt script at .command) _ (brief at)
 
     run-holds : (n at : ℕ) (st : State) → Kept st → Kept (runFrom n script domain at st)
     unfolding runFrom
@@ -44,6 +44,7 @@ module _ (script : List ℕ) (small : (i : ℕ) → byte script i < 256) where
         (λ y. on-test Kept (goesOn (wordOf (stepAt script domain at st .step .outcome))) _ _ (λ g. run-holds n (placeAfter (readAt script at)) (stepAt script domain at st) (step-holds at st h)) (λ g. step-holds at st h))
         (λ y. h)
 
-  pub run-keeps : (before : Card) (application domain : ℕ) (card : Card) → Holds before (start application) card → Holds before (run script application domain card .step .session) (run script application domain card .card)
+  pub run-keeps : (before : Card) (application domain : ℕ) (card : Card) → Holds before (start application) startWaiting card
+      → Holds before (run script application domain card .step .session) (run script application domain card .waiting) (run script application domain card .card)
   unfolding run started
   run-keeps before application domain card h = run-holds before domain (length script) 0 (started application card) h

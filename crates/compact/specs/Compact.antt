@@ -88,14 +88,18 @@ pub record ReadingFits (script : List ℕ) (at : ℕ) (r : Reading) : Type 0 whe
   pub p3 : r .command .p3 < 256
   pub brief : r .count < 256
 
--- a script's state after the command that stands at a place
-unfoldable pub stepAt : List ℕ → ℕ → ℕ → State → State
-stepAt script domain at st =
-    let r : Reading = readAt script at in
+-- a script's state after a command that was read
+unfoldable pub stepRead : List ℕ → ℕ → Reading → State → State
+stepRead script domain r st =
     stepped st
     (carriedOut
     (planned (situation Compact domain (r .command) (part script (r .from) (r .count)) (st .step .session) (st .card)))
+    (st .waiting)
     (st .card))
+
+-- a script's state after the command that stands at a place
+abbrev pub stepAt : List ℕ → ℕ → ℕ → State → State
+stepAt script domain at st = stepRead script domain (readAt script at) st
 
 -- the state after the script's commands from a place on, n of them at most: a script ends where it has no more bytes, or
 -- with a command whose word does not go on
@@ -117,6 +121,6 @@ unfoldable pub run : List ℕ → ℕ → ℕ → Card → State
 run script application domain card = runFrom (length script) script domain 0 (started application card)
 
 -- "Answer: count, status, data of a last outgoing command."
-unfoldable pub answer : Step → List ℕ → List ℕ
-answer step files =
-    step .count ∷ (bytes2 (wordOf (step .outcome)) ++ dataOf (step .outcome) files (step .session .waiting))
+unfoldable pub answer : Step → List ℕ → List ℕ → List ℕ
+answer step files waiting =
+    step .count ∷ (bytes2 (wordOf (step .outcome)) ++ dataOf (step .outcome) files waiting)

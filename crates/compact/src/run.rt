@@ -2,6 +2,7 @@
 use crate::reader::next_reading;
 use command::Format;
 use command::Outcome;
+use command::Reading;
 use command::Step;
 use command::ends::goes_on;
 use command::ends::word_of;
@@ -13,65 +14,83 @@ ghost use Rattle.card.specs.Row.{lent, entries, rowOf};
 ghost use Rattle.card.specs.Tree.{isRoot};
 ghost use Rattle.journal.specs.Entries.{scriptsOnTrial};
 ghost use Rattle.journal.specs.Sound.{soundCard};
+ghost use Rattle.session.specs.Session.{startWaiting};
 ghost use Rattle.session.specs.Good.{Good};
 ghost use Rattle.command.specs.Commands.{stateOf};
 ghost use Rattle.compact.specs.Compact as spec;
 
-// A script's step after the command that stands at a place.
-fn step_at(
+// A script's step after a command that was read.
+fn step_read(
     script: &[u8],
     domain: usize,
-    at: usize,
+    reading: Reading,
     before: Step,
+    made: &mut [u8],
+    waiting: &mut [u8],
     table: &mut [u8],
     files: &mut [u8],
     journal: &mut [u8],
 ) -> Step
-    requires { ⌜ (at < length (now script)) × (soundCard (lent (now table) (now files) (now journal)) ≡ true) × Good (now table) (before .session) × (before .count < 65535) ⌝ }
-    ensures { λ r. ⌜ stateOf r (lent (now (table .exit)) (now (files .exit)) (now (journal .exit))) ≡ spec.stepAt (now (script .entry)) domain at (stateOf before (lent (now (table .entry)) (now (files .entry)) (now (journal .entry)))) ⌝ }
+    requires { ⌜ (spec.placeAfter reading ≤ length (now script)) × (reading .command .p1 < 256) × (reading .command .p2 < 256) × (reading .command .p3 < 256) × (reading .count < 256) × (soundCard (lent (now table) (now files) (now journal)) ≡ true) × Good (now table) (before .session) × (before .count < 65535) × (length (now made) ≡ 255) × (length (now waiting) ≡ 255) ⌝ }
+    ensures { λ r. ⌜ stateOf r (now (waiting .exit)) (lent (now (table .exit)) (now (files .exit)) (now (journal .exit))) ≡ spec.stepRead (now (script .entry)) domain reading (stateOf before (now (waiting .entry)) (lent (now (table .entry)) (now (files .entry)) (now (journal .entry)))) ⌝ }
 {
-    let r = next_reading(script, at);
-    let from = r.from;
-    let end = from + r.count;
-    let c = r.command;
+    let from = reading.from;
+    let end = from + reading.count;
+    let c = reading.command;
     step::lent::run_step(
         Format::Compact,
         domain,
         c,
         &script[from..end],
         before,
+        0,
+        false,
+        made,
+        waiting,
         table,
         files,
         journal,
     )
 }
 
-// A whole script of an application on a sound card with the script's mark.
+// A whole script of an application on a sound card with the script's mark, with the waiting bytes that a session starts with.
 pub fn run(
     script: &[u8],
     application: usize,
     domain: usize,
+    waiting: &mut [u8],
     table: &mut [u8],
     files: &mut [u8],
     journal: &mut [u8],
 ) -> Step
-    requires { ⌜ (soundCard (lent (now table) (now files) (now journal)) ≡ true) × (1 ≤ scriptsOnTrial (now journal)) × (application < entries (now table)) × (isRoot (rowOf (now table) application) ≡ true) × (length (now script) ≤ 1024) ⌝ }
-    ensures { λ r. ⌜ stateOf r (lent (now (table .exit)) (now (files .exit)) (now (journal .exit))) ≡ spec.run (now (script .entry)) application domain (lent (now (table .entry)) (now (files .entry)) (now (journal .entry))) ⌝ }
+    requires { ⌜ (soundCard (lent (now table) (now files) (now journal)) ≡ true) × (1 ≤ scriptsOnTrial (now journal)) × (application < entries (now table)) × (isRoot (rowOf (now table) application) ≡ true) × (length (now script) ≤ 1024) × (now waiting ≡ startWaiting) ⌝ }
+    ensures { λ r. ⌜ stateOf r (now (waiting .exit)) (lent (now (table .exit)) (now (files .exit)) (now (journal .exit))) ≡ spec.run (now (script .entry)) application domain (lent (now (table .entry)) (now (files .entry)) (now (journal .entry))) ⌝ }
 {
     let mut step = Step {
         session: session::start(application),
         outcome: Outcome::Well(0x9000),
         count: 0,
     };
+    let mut made = [0; 255];
     let mut at: usize = 0;
     while at < script.len() {
-        let r = next_reading(script, at);
-        step = step_at(script, domain, at, step, table, files, journal);
+        let reading = next_reading(script, at);
+        step = step_read(
+            script,
+            domain,
+            reading,
+            step,
+            &mut made,
+            waiting,
+            table,
+            files,
+            journal,
+        );
         let outcome = step.outcome;
         if !goes_on(word_of(outcome)) {
             return step;
         }
-        at = r.from + r.count;
+        at = reading.from + reading.count;
     }
     step
 }

@@ -9,14 +9,14 @@ use lib.ListN.{length}
 use borrow.Author.Tests.{ltb-true, le-ltb}
 use Rattle.octets.specs.Bytes.{byte, part}
 use Rattle.octets.proofs.Picks.{pick-false, on-pick}
+use Rattle.tlv.specs.declared.template.Template.{Template}
+use Rattle.tlv.specs.declared.template.Template.the-variants.{Definite, Indefinite, Missing}
+use Rattle.tlv.specs.declared.template.Item.{Item}
+use Rattle.tlv.specs.declared.template.Item.the-variants.{Capdu, Bad, End}
+use Rattle.tlv.specs.Templates.{templateOf, TemplateFits, itemAt, ItemFits}
+use Rattle.tlv.proofs.Fits.{template-told, item-told}
 use Rattle.command.specs.declared.Reading.{Reading}
 use Rattle.compact.specs.Compact.{broken, wholeAt, headedAt, readAt, placeAfter}
-use Rattle.expanded.specs.declared.template.Template.{Template}
-use Rattle.expanded.specs.declared.template.Template.the-variants.{Definite, Indefinite, Missing}
-use Rattle.expanded.specs.declared.template.Item.{Item}
-use Rattle.expanded.specs.declared.template.Item.the-variants.{Capdu, Bad, End}
-use Rattle.expanded.specs.Templates.{templateOf, TemplateFits, itemAt, ItemFits}
-use Rattle.expanded.proofs.Fits.{template-told, item-told}
 use Rattle.engine.specs.Commands.{Read, readIn, commandsFrom, commandsOf, Piece, capdu, piecesFrom, piecesIn, piecesOf}
 
 -- ---- compact

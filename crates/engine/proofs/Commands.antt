@@ -9,14 +9,14 @@ use lib.ListN.{length}
 use Rattle.octets.proofs.Picks.{on-pick, on-test}
 use Rattle.octets.specs.Bytes.{part}
 use Rattle.card.specs.Row.{Card}
+use Rattle.tlv.specs.declared.template.Template.{Template}
+use Rattle.tlv.specs.declared.template.Template.the-variants.{Definite, Indefinite, Missing}
+use Rattle.tlv.specs.declared.template.Item.{Item}
+use Rattle.tlv.specs.declared.template.Item.the-variants.{Capdu, Bad, End}
+use Rattle.tlv.specs.Templates.{itemAt}
 use Rattle.command.specs.Commands.{State, started, stepped}
 use Rattle.compact.specs.Compact as compact
-use Rattle.compact.specs.Compact.{readAt, placeAfter, stepAt}
-use Rattle.expanded.specs.declared.template.Template.{Template}
-use Rattle.expanded.specs.declared.template.Template.the-variants.{Definite, Indefinite, Missing}
-use Rattle.expanded.specs.declared.template.Item.{Item}
-use Rattle.expanded.specs.declared.template.Item.the-variants.{Capdu, Bad, End}
-use Rattle.expanded.specs.Templates.{itemAt}
+use Rattle.compact.specs.Compact.{readAt, placeAfter, stepRead, stepAt}
 use Rattle.expanded.specs.Expanded as expanded
 use Rattle.expanded.specs.Expanded.{Progress, begun, answered, stepCapdu, stepBad}
 use Rattle.engine.specs.Commands.{after, lastOf, Read, readIn, commandsFrom, commandsOf, commandDone, wordGoesOn, statesAfter, Piece, capdu, badFormat, piecesFrom, piecesIn, piecesOf, isDefinite, pieceDone, pieceGoesOn, progressAfter}
@@ -66,7 +66,7 @@ by-test f false x y u v h g = g
 
 module _ (script : List ℕ) (domain : ℕ) where
   run-ends : (n at : ℕ) (st : State) → compact.runFrom n script domain at st ≡ ends (commandDone domain) wordGoesOn st (commandsFrom n script at)
-  unfolding compact.runFrom stepAt commandsFrom readIn lastOf after commandDone wordGoesOn
+  unfolding compact.runFrom stepRead commandsFrom readIn lastOf after commandDone wordGoesOn
   run-ends zero at st = refl
   run-ends (suc n) at st =
       by-test (ends (commandDone domain) wordGoesOn st) (ltb at (length script)) _ st _ []

@@ -1,6 +1,6 @@
 -- Each of the three contracts allows one result: whatever the arguments and the first contents of the lent memories, two results
 -- that it allows have the same number, length and count, and leave the same bytes in each lent memory. Assumes nothing.
-use mathlib.Core.Path.{_≡_, sym, ap, _∙_}
+use mathlib.Core.Path.{_≡_, refl}
 use mathlib.Core.List.{[]}
 use contract.Lifetimes.{Lfts}
 use denote.Ref.{now}
@@ -30,16 +30,7 @@ pub record Same (one other : Result) : Type 0 where
 
 same : (one other given : Result) → one ≡ given → other ≡ given → Same one other
 same one other given e f =
-    let k : one ≡ other = e ∙ sym f in
-    record {
-      number = ap (λ (r : Result). r .answer .number) k;
-      length = ap (λ (r : Result). r .answer .length) k;
-      count = ap (λ (r : Result). r .answer .count) k;
-      table = ap (λ (r : Result). r .card .table) k;
-      files = ap (λ (r : Result). r .card .files) k;
-      journal = ap (λ (r : Result). r .card .journal) k;
-      response = ap (λ (r : Result). r .response) k;
-    }
+    rw (e, f) (record { number = refl; length = refl; count = refl; table = refl; files = refl; journal = refl; response = refl })
 
 -- `engine::run`, called with application, domain, format, script, response memory, table, files and journal
 module _ (κs : Lfts 5) (args : Dens κs run.ps) where

@@ -13,11 +13,16 @@ use Rattle.octets.specs.Bytes.{byte, bytes2, overwrite}
 use Rattle.octets.proofs.Writes.{write-none}
 use Rattle.card.specs.Row.{Card, entries, rowOf}
 use Rattle.card.specs.Tree.{isRoot}
+use Rattle.tlv.specs.declared.template.Template.{Template}
+use Rattle.tlv.specs.declared.template.Template.the-variants.{Definite, Indefinite, Missing}
+use Rattle.tlv.specs.Lengths.{lengthBytes}
+use Rattle.tlv.specs.Templates.{templateOf, TemplateFits}
+use Rattle.tlv.proofs.Written.{length-few}
 use Rattle.journal.specs.Entries.{scriptsOnTrial}
 use Rattle.journal.specs.Sound.{soundCard}
 use Rattle.journal.specs.Changes.{takenBack}
 use Rattle.journal.proofs.Parts.{card-table}
-use Rattle.session.specs.Session.{start}
+use Rattle.session.specs.Session.{start, startWaiting}
 use Rattle.session.proofs.Good.{good-start}
 use Rattle.command.specs.declared.Format.the-variants.{Compact, Expanded}
 use Rattle.command.specs.declared.Step.{Step}
@@ -30,56 +35,58 @@ use Rattle.compact.proofs.Runs.{run-keeps}
 use Rattle.compact.proofs.Fits.{outcome-inside}
 use Rattle.compact.proofs.Answered.{answer-length}
 use Rattle.compact.proofs.Counts.{count-byte}
-use Rattle.expanded.specs.declared.template.Template.{Template}
-use Rattle.expanded.specs.declared.template.Template.the-variants.{Definite, Indefinite, Missing}
 use Rattle.expanded.specs.declared.run.Gathered.{Gathered}
-use Rattle.expanded.specs.Lengths.{lengthBytes, countBytes}
-use Rattle.expanded.specs.Templates.{templateOf, TemplateFits}
 use Rattle.expanded.specs.Expanded as expanded
-use Rattle.expanded.specs.Expanded.{Progress}
-use Rattle.expanded.proofs.Written.{length-few}
+use Rattle.expanded.specs.Expanded.{Progress, countBytes}
 use Rattle.engine.specs.Numbers.{Arguments}
 use Rattle.engine.specs.Calls.{gives, numbered, Small, accepted, runValue, runScript}
 
 -- a script starts on a sound card with a mark, from an application's root
 starts : (application : ℕ) (card : Card) → soundCard card ≡ true → 1 ≤ scriptsOnTrial (card .journal) → application < entries (card .table) → isRoot (rowOf (card .table) application) ≡ true
-    → Holds (takenBack card) (start application) card
+    → Holds (takenBack card) (start application) startWaiting card
+unfolding startWaiting
 starts application card sound trial here root =
-    record { sound = sound; trial = trial; good = good-start (card .table) (card .files) (card-table card sound) application here root; back = refl }
+    record {
+      sound = sound;
+      trial = trial;
+      good = good-start (card .table) (card .files) (card-table card sound) application here root;
+      waiting = refl;
+      back = refl;
+    }
 
 -- a compact script: its answer has room
 pub compact-room : (script : List ℕ) → ((i : ℕ) → byte script i < 256) → (application domain : ℕ) (card : Card)
     → soundCard card ≡ true → 1 ≤ scriptsOnTrial (card .journal) → application < entries (card .table) → isRoot (rowOf (card .table) application) ≡ true → length script ≤ 1024
-    → (step : Step) (after : Card) → stateOf step after ≡ compact.run script application domain card
-    → (response : ℕ) → 1024 ≤ response → OutcomeFits (length (after .files)) (step .outcome) × (step .count < 256) × (3 + dataCount (step .outcome) ≤ response) × (length (step .session .waiting) ≡ 255)
-compact-room script small application domain card sound trial here root short step after e response long =
+    → (step : Step) (waiting : List ℕ) (after : Card) → stateOf step waiting after ≡ compact.run script application domain card
+    → (response : ℕ) → 1024 ≤ response → OutcomeFits (length (after .files)) (step .outcome) × (step .count < 256) × (3 + dataCount (step .outcome) ≤ response) × (length waiting ≡ 255)
+compact-room script small application domain card sound trial here root short step waiting after e response long =
     let fits : OutcomeFits (length (after .files)) (step .outcome) =
     subst (λ (st : State). OutcomeFits (length (st .card .files)) (st .step .outcome)) (sym e)
     (outcome-inside script small (takenBack card) application domain card (starts application card sound trial here root))
     in
     let few = data-few (step .outcome) (length (after .files)) fits in
-    let waits : length (step .session .waiting) ≡ 255 =
-    subst (λ (st : State). length (st .step .session .waiting) ≡ 255) (sym e)
-    (run-keeps script small (takenBack card) application domain card (starts application card sound trial here root) .good .waiting)
+    let waits : length waiting ≡ 255 =
+    subst (λ (st : State). length (st .waiting) ≡ 255) (sym e)
+    (run-keeps script small (takenBack card) application domain card (starts application card sound trial here root) .waiting)
     in
     (fits, subst (λ (st : State). st .step .count < 256) (sym e) (count-byte script application domain card short), omega arith, waits)
 
 -- the answer is small
-pub compact-small : (step : Step) (files : List ℕ) → OutcomeFits (length files) (step .outcome) → step .count < 256 → length (step .session .waiting) ≡ 255
-    → (n : ℕ) → n ≡ length (compact.answer step files) → Small (record { number = 0; length = n; count = step .count })
-compact-small step files fits few all n e =
-    let l = answer-length step files fits all in
+pub compact-small : (step : Step) (files waiting : List ℕ) → OutcomeFits (length files) (step .outcome) → step .count < 256 → length waiting ≡ 255
+    → (n : ℕ) → n ≡ length (compact.answer step files waiting) → Small (record { number = 0; length = n; count = step .count })
+compact-small step files waiting fits few all n e =
+    let l = answer-length step files waiting fits all in
     let d = data-few (step .outcome) (length files) fits in
     (omega arith, omega arith, omega arith)
 
 -- and the result
-pub compact-gives : (a : Arguments) (card : Card) (step : Step) (after : Card) (response : List ℕ) (n : ℕ) → stateOf step after ≡ compact.run (a .script) (a .application) (a .domain) card
-    → response ≡ overwrite (a .response) 0 (compact.answer step (after .files)) → n ≡ length (compact.answer step (after .files))
+pub compact-gives : (a : Arguments) (card : Card) (step : Step) (waiting : List ℕ) (after : Card) (response : List ℕ) (n : ℕ) → stateOf step waiting after ≡ compact.run (a .script) (a .application) (a .domain) card
+    → response ≡ overwrite (a .response) 0 (compact.answer step (after .files) waiting) → n ≡ length (compact.answer step (after .files) waiting)
     → gives (record { number = 0; length = n; count = step .count }) after response ≡ runScript Compact a card
 unfolding runScript accepted
-compact-gives a card step after response n e r l =
+compact-gives a card step waiting after response n e r l =
     (λ i. gives (record { number = 0; length = l i; count = step .count }) after (r i))
-    ∙ ap (λ (st : State). accepted st (compact.answer (st .step) (st .card .files)) (a .response)) e
+    ∙ ap (λ (st : State). accepted st (compact.answer (st .step) (st .card .files) (st .waiting)) (a .response)) e
 
 -- an expanded script: its answer is small
 count-few : (n : ℕ) → length (countBytes n) ≤ 2
@@ -109,15 +116,15 @@ pub expanded-small : (definite : Bool) (count : ℕ) (rapdus : List ℕ) → len
 expanded-small definite count rapdus few most n e = let a = answer-few definite count rapdus in (omega arith, omega arith, omega arith)
 
 -- and the result
-pub value-gives : (definite : Bool) (at end : ℕ) (a : Arguments) (card : Card) (g : Gathered) (after : Card) (out response : List ℕ) (n : ℕ)
-    → expanded.progressOf g after out ≡ expanded.runFrom (length (a .script)) (a .script) (a .domain) definite at end (expanded.begun (a .application) card)
+pub value-gives : (definite : Bool) (at end : ℕ) (a : Arguments) (card : Card) (g : Gathered) (waiting : List ℕ) (after : Card) (out response : List ℕ) (n : ℕ)
+    → expanded.progressOf g waiting after out ≡ expanded.runFrom (length (a .script)) (a .script) (a .domain) definite at end (expanded.begun (a .application) card)
     → response ≡ overwrite (a .response) 0 (expanded.answerBytes definite (g .step .count) (take (g .kept + g .last) out))
     → n ≡ length (expanded.answerBytes definite (g .step .count) (take (g .kept + g .last) out))
     → gives (record { number = 0; length = n; count = g .step .count }) after response ≡ runValue definite at end a card
 unfolding runValue accepted expanded.progressOf
-value-gives definite at end a card g after out response n e r l =
+value-gives definite at end a card g waiting after out response n e r l =
     (λ i. gives (record { number = 0; length = l i; count = g .step .count }) after (r i))
-    ∙ (λ i. accepted (stateOf (g .step) after) (expanded.answerBytes definite (g .step .count) (take-add (g .kept) (g .last) out i)) (a .response))
+    ∙ (λ i. accepted (stateOf (g .step) waiting after) (expanded.answerBytes definite (g .step .count) (take-add (g .kept) (g .last) out i)) (a .response))
     ∙ ap (λ (p : Progress). accepted (p .state) (expanded.answerBytes definite (p .state .step .count) (p .kept ++ p .last)) (a .response)) e
 
 -- where the value of a known template lies

@@ -9,8 +9,12 @@ use borrow.Author.Tests.{ne-eqb}
 use Rattle.octets.specs.Choice.{pick}
 use Rattle.octets.specs.Bytes.{bytes2}
 use Rattle.card.specs.Row.{Card}
+use Rattle.tlv.specs.declared.template.Template.{Template}
+use Rattle.tlv.specs.declared.template.Template.the-variants.{Definite, Indefinite, Missing}
+use Rattle.tlv.specs.Lengths.{lengthBytes}
+use Rattle.tlv.specs.Templates.{templateOf}
 use Rattle.journal.specs.Changes.{perform}
-use Rattle.session.specs.Session.{start}
+use Rattle.session.specs.Session.{start, startWaiting}
 use Rattle.command.specs.declared.Format.the-variants.{Compact, Expanded}
 use Rattle.command.specs.Instructions as ins
 use Rattle.command.specs.Outcomes.{Plan, failed, dataOf}
@@ -18,13 +22,10 @@ use Rattle.command.specs.Plans.{Situation}
 use Rattle.command.specs.Checks.{Check, formalChecks, boundChecks, fileChecks, laterChecks, order, checkWord, holds, firstFailing}
 use Rattle.command.specs.Commands.{State, started, stepped, situation, carriedOut, decided, planned}
 use Rattle.compact.specs.Compact as compact
-use Rattle.expanded.specs.declared.template.Template.{Template}
-use Rattle.expanded.specs.declared.template.Template.the-variants.{Definite, Indefinite, Missing}
-use Rattle.expanded.specs.Lengths.{lengthBytes, countBytes}
-use Rattle.expanded.specs.Templates.{templateOf}
 use Rattle.expanded.specs.Capdu.{capduCommand}
 use Rattle.expanded.specs.Expanded as expanded
-use Rattle.expanded.specs.Expanded.{rapdu, rapduSize, keeps, limited, Progress, answered, lastRapdu, stepCapdu, begun, definiteBody, definiteAnswer, indefiniteAnswer, answerBytes}
+use Rattle.step.specs.Limits.{rapduSize, limited}
+use Rattle.expanded.specs.Expanded.{rapdu, keeps, Progress, answered, lastRapdu, stepCapdu, begun, countBytes, definiteBody, definiteAnswer, indefiniteAnswer, answerBytes}
 use Rattle.engine.specs.Numbers.{Arguments, formatOf}
 use Rattle.engine.specs.Calls.{accepted, runScript}
 use Rattle.engine.specs.Given.{running, given, number}
@@ -54,7 +55,7 @@ no-file w h z =
 
 -- the state of a script that was stopped so
 stopped : ℕ → Card → State
-stopped application card = stepped (started application card) (carriedOut (failed (start application) 0x6986) card)
+stopped application card = stepped (started application card) (carriedOut (failed (start application) 0x6986) startWaiting card)
 
 -- ---- compact
 
@@ -64,7 +65,7 @@ module _ (script : List ℕ) (application domain : ℕ) (card : Card) (r : Read)
   command-fails : commandDone domain (started application card) r ≡ stopped application card
   unfolding commandDone started situation start stopped carriedOut perform
   command-fails =
-      ap (λ (p : Plan). stepped (started application card) (carriedOut p card))
+      ap (λ (p : Plan). stepped (started application card) (carriedOut p startWaiting card))
       (no-file (situation Compact domain (r .command) (r .«data») (start application) card) works refl)
 
   compact-stops : compact.run script application domain card ≡ stopped application card
@@ -93,8 +94,8 @@ module _ (definite : Bool) (domain application : ℕ) (card : Card) (bytes : Lis
   plan = planned (situation Expanded domain (command .command) (command .«data») (start application) card)
 
   either-counts : (counts : Bool) → plan ≡ failed (start application) 0x6986
-      → let st = stepped (started application card) (carriedOut (limited 0 counts (start application) plan) card) in
-      let p = answered counts st [] (lastRapdu (st .step) (st .card .files)) in
+      → let st = stepped (started application card) (carriedOut (limited 0 counts (start application) plan) startWaiting card) in
+      let p = answered counts st [] (lastRapdu (st .step) (st .card .files) (st .waiting)) in
       (p .state ≡ stopped application card) × (p .kept ++ p .last ≡ hex "23026986")
   unfolding limited answered lastRapdu rapdu rapduSize lengthBytes dataOf bytes2 stopped stepped carriedOut failed perform hex digit pick
   either-counts true e = rw e (refl, refl)
@@ -139,10 +140,11 @@ expanded-fresh a c bytes pieces ok f first works =
     (template-answer t p (a .application) c (a .response) (fails .0) (fails .1))
 
 pub fresh : (c : Card) (a : Arguments) → number (given (running a) c) ≡ 0 → Fresh c a
-unfolding started start
+unfolding started start startWaiting
 fresh c a ok =
     record {
       session = refl;
+      waiting = refl;
       compact = λ r rs f. compact-fresh a c r rs ok f;
       expanded = λ bytes pieces f. expanded-fresh a c bytes pieces ok f;
     }

@@ -12,11 +12,11 @@ use Rattle.card.specs.Row.{Card, entries, rowOf}
 use Rattle.card.specs.Sound.{soundTable}
 use Rattle.card.specs.Tree.{isRoot}
 use Rattle.card.proofs.Promises.{some-entries, first-kind, other-kind}
+use Rattle.tlv.specs.declared.template.Template.{Template}
+use Rattle.tlv.specs.Templates.{templateOf}
 use Rattle.journal.specs.Sound.{soundCard}
 use Rattle.command.specs.declared.Format.{Format}
 use Rattle.command.specs.declared.Format.the-variants.{Compact, Expanded}
-use Rattle.expanded.specs.declared.template.Template.{Template}
-use Rattle.expanded.specs.Templates.{templateOf}
 use Rattle.engine.specs.Numbers.{Arguments, formatOf, isMissing, applicationFits, argumentsFit, scriptFits, leastResponse, markFits, templateFits, firstGiven, notSound, runRefusals}
 
 -- in a sound table, 0 and the ADFs are the roots

@@ -6,6 +6,8 @@ use lib.ListN.{length}
 use lib.Dec.{eqb}
 use Rattle.octets.specs.Bytes.{overwrite}
 use Rattle.card.specs.Row.{Card}
+use Rattle.tlv.specs.declared.template.Template.{Template}
+use Rattle.tlv.specs.Templates.{templateOf}
 use Rattle.journal.specs.Changes.{withJournal, marked, takenBack, confirmed}
 use Rattle.command.specs.declared.Format.{Format}
 use Rattle.command.specs.declared.Format.the-variants.{Compact, Expanded}
@@ -13,8 +15,6 @@ use Rattle.command.specs.Commands.{State}
 use Rattle.compact.specs.Compact as compact
 use Rattle.expanded.specs.Expanded as expanded
 use Rattle.expanded.specs.Expanded.{Progress}
-use Rattle.expanded.specs.declared.template.Template.{Template}
-use Rattle.expanded.specs.Templates.{templateOf}
 use Rattle.engine.specs.declared.Answer.{Answer}
 use Rattle.engine.specs.Numbers.{Arguments, formatOf, firstGiven, runRefusals, takeBackRefusals, confirmRefusals}
 
@@ -60,7 +60,7 @@ runValue definite at end a c =
 unfoldable pub runScript : Format → Arguments → Card → Result
 runScript Compact a c =
     let st : State = compact.run (a .script) (a .application) (a .domain) c in
-    accepted st (compact.answer (st .step) (st .card .files)) (a .response)
+    accepted st (compact.answer (st .step) (st .card .files) (st .waiting)) (a .response)
 runScript Expanded a c =
     let template : Template = templateOf (a .script) in
     let p : Progress = expanded.run template (a .script) (a .application) (a .domain) c in

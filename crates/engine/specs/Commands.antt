@@ -6,16 +6,16 @@ use lib.Dec.{ltb}
 use lib.ListN.{length}
 use Rattle.octets.specs.Bytes.{part}
 use Rattle.card.specs.Row.{Card}
+use Rattle.tlv.specs.declared.template.Template.{Template}
+use Rattle.tlv.specs.declared.template.Template.the-variants.{Definite, Indefinite, Missing}
+use Rattle.tlv.specs.declared.template.Item.the-variants.{Capdu, Bad, End}
+use Rattle.tlv.specs.Templates.{itemAt}
 use Rattle.command.specs.declared.Format.the-variants.{Compact}
 use Rattle.command.specs.declared.Command.{Command}
 use Rattle.command.specs.declared.Reading.{Reading}
 use Rattle.command.specs.Outcomes.{wordOf, goesOn}
 use Rattle.command.specs.Commands.{State, started, situation, planned, carriedOut, stepped}
 use Rattle.compact.specs.Compact.{readAt, placeAfter}
-use Rattle.expanded.specs.declared.template.Template.{Template}
-use Rattle.expanded.specs.declared.template.Template.the-variants.{Definite, Indefinite, Missing}
-use Rattle.expanded.specs.declared.template.Item.the-variants.{Capdu, Bad, End}
-use Rattle.expanded.specs.Templates.{itemAt}
 use Rattle.expanded.specs.Expanded.{Progress, begun, stepCapdu, stepBad}
 
 -- what is there after each command that runs: the first one runs, and each next one if the one before it goes on
@@ -56,7 +56,7 @@ commandsOf script = commandsFrom (length script) script 0
 unfoldable pub commandDone : ℕ → State → Read → State
 commandDone domain st r =
     stepped st
-    (carriedOut (planned (situation Compact domain (r .command) (r .«data») (st .step .session) (st .card))) (st .card))
+    (carriedOut (planned (situation Compact domain (r .command) (r .«data») (st .step .session) (st .card))) (st .waiting) (st .card))
 
 -- "9000, 6282, 6283 and 61xx go on"
 unfoldable pub wordGoesOn : State → Bool

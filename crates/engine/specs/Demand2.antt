@@ -13,6 +13,9 @@ use Rattle.card.specs.declared.Row.{Row}
 use Rattle.card.specs.Row.{Card}
 use Rattle.card.specs.Sound.{recordCount}
 use Rattle.card.specs.Records.{cyclicPlace, recordOffset}
+use Rattle.tlv.specs.declared.template.Template.{Template}
+use Rattle.tlv.specs.declared.template.Template.the-variants.{Definite, Indefinite, Missing}
+use Rattle.tlv.specs.Templates.{templateOf}
 use Rattle.journal.specs.Changes.{withJournal, marked}
 use Rattle.session.specs.Session as session
 use Rattle.session.specs.Session.{start}
@@ -23,9 +26,6 @@ use Rattle.command.specs.Plans.{Situation}
 use Rattle.command.specs.Checks.{formalChecks, firstFailing}
 use Rattle.command.specs.Commands.{started, situation}
 use Rattle.compact.specs.Compact as compact
-use Rattle.expanded.specs.declared.template.Template.{Template}
-use Rattle.expanded.specs.declared.template.Template.the-variants.{Definite, Indefinite, Missing}
-use Rattle.expanded.specs.Templates.{templateOf}
 use Rattle.expanded.specs.Capdu.{capduCommand}
 use Rattle.expanded.specs.Expanded as expanded
 use Rattle.expanded.specs.Expanded.{begun}
@@ -93,10 +93,10 @@ pub record Fresh (c : Card) (a : Arguments) : Type 0 where
         directory = a .application;
         file = session.none;
         number = session.none;
-        waiting = zeros 255;
         valid = 0;
         kept = 0;
       }
+  pub waiting : started (a .application) (withMark c) .waiting ≡ zeros 255
   pub compact :
       (r : Read) (rs : List Read)
       → a .format ≡ 0 → commandsOf (a .script) ≡ r ∷ rs

@@ -6,13 +6,13 @@ use lib.ListN.{length}
 use lib.Dec.{leb, ltb, eqb}
 use Rattle.octets.specs.Choice.{pick}
 use Rattle.card.specs.Row.{Card, entries, rowOf, isADF}
+use Rattle.tlv.specs.declared.template.Template.{Template}
+use Rattle.tlv.specs.declared.template.Template.the-variants.{Definite, Indefinite, Missing}
+use Rattle.tlv.specs.Templates.{templateOf}
 use Rattle.journal.specs.Entries.{usedBytes, scriptsOnTrial, room, entryBytes}
 use Rattle.journal.specs.Sound.{mostScripts, soundCard}
 use Rattle.command.specs.declared.Format.{Format}
 use Rattle.command.specs.declared.Format.the-variants.{Compact, Expanded}
-use Rattle.expanded.specs.declared.template.Template.{Template}
-use Rattle.expanded.specs.declared.template.Template.the-variants.{Definite, Indefinite, Missing}
-use Rattle.expanded.specs.Templates.{templateOf}
 
 -- what a run is called with besides the card
 pub record Arguments : Type 0 where

@@ -1,6 +1,6 @@
 // The numbers of a run, in the paper's order.
-use expanded::template::Template;
-use expanded::template::template_of;
+use tlv::template::Template;
+use tlv::template::template_of;
 ghost use mathlib.Core.Path.{_≡_};
 ghost use mathlib.Core.Bool.{_&&_, _||_};
 ghost use Prim.Native.Nat.{_≤_};

@@ -3,8 +3,8 @@ use crate::Answer;
 use crate::numbered;
 use expanded::answer::put_answer;
 use expanded::run::ROOM_TO_GATHER;
-use expanded::template::Template;
-use expanded::template::template_of;
+use tlv::template::Template;
+use tlv::template::template_of;
 ghost use mathlib.Core.Path.{_≡_};
 ghost use mathlib.Core.Bool.{true};
 ghost use Prim.Native.Nat.{_≤_, _<_};
@@ -31,8 +31,17 @@ pub fn run_compact(
         ≡ spec.runScript formats.Compact (record { application = application; domain = domain; format = 0; script = now (script .entry); response = now (response .entry) })
         (lent (now (table .entry)) (now (files .entry)) (now (journal .entry)))) × spec.Small a ⌝ }
 {
-    let step = compact::run::run(script, application, domain, table, files, journal);
-    let length = compact::answer::put_answer(response, step, files);
+    let mut waiting = [0; 255];
+    let step = compact::run::run(
+        script,
+        application,
+        domain,
+        &mut waiting,
+        table,
+        files,
+        journal,
+    );
+    let length = compact::answer::put_answer(response, step, files, &waiting);
     Answer {
         number: 0,
         length,
@@ -59,6 +68,7 @@ fn run_value(
         (lent (now (table .entry)) (now (files .entry)) (now (journal .entry)))) × spec.Small a ⌝ }
 {
     let mut rapdus = [0; ROOM_TO_GATHER];
+    let mut waiting = [0; 255];
     let g = expanded::run::run(
         script,
         definite,
@@ -67,6 +77,7 @@ fn run_value(
         application,
         domain,
         &mut rapdus,
+        &mut waiting,
         table,
         files,
         journal,

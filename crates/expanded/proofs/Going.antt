@@ -9,20 +9,22 @@ use Rattle.octets.proofs.Picks.{on-pick}
 use Rattle.octets.specs.Bytes.{byte, part}
 use Rattle.card.specs.Row.{Card, entries, rowOf}
 use Rattle.card.specs.Tree.{isRoot}
+use Rattle.tlv.specs.declared.template.Item.{Item}
+use Rattle.tlv.specs.declared.template.Item.the-variants.{Capdu, Bad, End}
+use Rattle.tlv.specs.Templates.{leastCapdu, itemAt, ItemFits}
 use Rattle.journal.specs.Entries.{scriptsOnTrial}
 use Rattle.journal.specs.Sound.{soundCard}
 use Rattle.journal.specs.Changes.{takenBack}
 use Rattle.journal.proofs.Parts.{card-table}
+use Rattle.session.specs.Session.{startWaiting}
 use Rattle.session.proofs.Good.{good-start}
 use Rattle.command.specs.declared.Step.{Step}
 use Rattle.command.specs.Outcomes.{wordOf, goesOn}
 use Rattle.command.specs.Commands.{started, stepped}
 use Rattle.command.proofs.Keeps.{Holds}
-use Rattle.expanded.specs.declared.template.Item.{Item}
-use Rattle.expanded.specs.declared.template.Item.the-variants.{Capdu, Bad, End}
+use Rattle.step.specs.Limits.{mostKept}
 use Rattle.expanded.specs.declared.run.Gathered.{Gathered}
-use Rattle.expanded.specs.Templates.{leastCapdu, itemAt, ItemFits}
-use Rattle.expanded.specs.Expanded.{mostKept, roomToGather, Progress, progressOf, answered, stepCapdu, stepBad, runFrom, begun}
+use Rattle.expanded.specs.Expanded.{roomToGather, Progress, progressOf, answered, stepCapdu, stepBad, runFrom, begun}
 use Rattle.expanded.proofs.Runs.{script-capdu-holds}
 
 -- an item that is known lies in the value
@@ -41,16 +43,16 @@ unfolding stepCapdu answered stepped
 counts-one definite domain capdu p = on-pick (λ (q : Progress). q .state .step .count ≡ p .state .step .count + 1) _ _ _ (λ y. refl) (λ n. refl)
 
 module _ (script : List ℕ) (definite : Bool) (from end application domain : ℕ) (card₀ : Card) where
-  -- the place, the number of commands, the bytes kept, what holds of session and card, and what is left to run, with a count that is large enough
-  pub record Going (card : Card) (out : List ℕ) (g : Gathered) (at : ℕ) : Type 0 where
+  -- the place, the number of commands, the bytes kept, what holds of session, waiting bytes and card, and what is left to run, with a count that is large enough
+  pub record Going (waiting : List ℕ) (card : Card) (out : List ℕ) (g : Gathered) (at : ℕ) : Type 0 where
     pub inside : at ≤ end
     pub counted : g .step .count ≤ at
     pub kept : g .kept ≤ mostKept
     pub room : g .kept + g .last ≤ roomToGather
-    pub holds : Holds (takenBack card₀) (g .step .session) card
+    pub holds : Holds (takenBack card₀) (g .step .session) waiting card
     pub fuel : ℕ
     pub enough : end ≤ at + fuel
-    pub whole : runFrom fuel script domain definite at end (progressOf g card out) ≡ runFrom (length script) script domain definite from end (begun application card₀)
+    pub whole : runFrom fuel script domain definite at end (progressOf g waiting card out) ≡ runFrom (length script) script domain definite from end (begun application card₀)
 
   -- the items from a place on, by the first of them
   module _ (at : ℕ) (p : Progress) where
@@ -80,15 +82,15 @@ module _ (script : List ℕ) (definite : Bool) (from end application domain : �
       on-left (suc n) l g = (n, omega arith, rw (runFrom, e, g))
 
   -- a script that is done
-  abbrev pub Done : Card → List ℕ → Gathered → Type 0
-  Done card out r =
-      (progressOf r card out ≡ runFrom (length script) script domain definite from end (begun application card₀))
+  abbrev pub Done : List ℕ → Card → List ℕ → Gathered → Type 0
+  Done waiting card out r =
+      (progressOf r waiting card out ≡ runFrom (length script) script domain definite from end (begun application card₀))
       × (r .kept + r .last ≤ roomToGather)
       × (r .step .count ≤ end)
 
   pub begins : from ≤ end → end ≤ length script → soundCard card₀ ≡ true → 1 ≤ scriptsOnTrial (card₀ .journal) → application < entries (card₀ .table) → isRoot (rowOf (card₀ .table) application) ≡ true
-      → (out : List ℕ) (step : Step) → step ≡ started application card₀ .step → Going card₀ out (record { step = step; kept = 0; last = 0 }) from
-  unfolding started begun progressOf
+      → (out : List ℕ) (step : Step) → step ≡ started application card₀ .step → Going startWaiting card₀ out (record { step = step; kept = 0; last = 0 }) from
+  unfolding started begun progressOf startWaiting
   begins inside short sound trial here root out step is =
       record {
         inside = inside;
@@ -99,6 +101,7 @@ module _ (script : List ℕ) (definite : Bool) (from end application domain : �
           sound = sound;
           trial = trial;
           good = rw is (good-start (card₀ .table) (card₀ .files) (card-table card₀ sound) application here root);
+          waiting = refl;
           back = refl;
         };
         fuel = length script;
@@ -107,51 +110,51 @@ module _ (script : List ℕ) (definite : Bool) (from end application domain : �
       }
 
   -- the item at a place of a script that is going
-  module _ (card : Card) (out : List ℕ) (g : Gathered) (at : ℕ) (going : Going card out g at) (item : Item) (is : item ≡ itemAt script at end) (fits : ItemFits at end item) where
-    pub ends : item ≡ End → Done card out g
+  module _ (waiting : List ℕ) (card : Card) (out : List ℕ) (g : Gathered) (at : ℕ) (going : Going waiting card out g at) (item : Item) (is : item ≡ itemAt script at end) (fits : ItemFits at end item) where
+    pub ends : item ≡ End → Done waiting card out g
     ends known =
         let c = going .counted in
         let i = going .inside in
-        (sym (end-left at (progressOf g card out) (going .fuel) (sym is ∙ known)) ∙ going .whole, going .room, omega arith)
+        (sym (end-left at (progressOf g waiting card out) (going .fuel) (sym is ∙ known)) ∙ going .whole, going .room, omega arith)
 
-    module _ (next : Gathered) (card′ : Card) (out′ : List ℕ) (room : next .kept + next .last ≤ roomToGather) where
-      pub breaks : (code : ℕ) → item ≡ Bad code → progressOf next card′ out′ ≡ stepBad code (progressOf g card out) → Done card′ out′ next
+    module _ (next : Gathered) (bytes : List ℕ) (card′ : Card) (out′ : List ℕ) (room : next .kept + next .last ≤ roomToGather) where
+      pub breaks : (code : ℕ) → item ≡ Bad code → progressOf next bytes card′ out′ ≡ stepBad code (progressOf g waiting card out) → Done bytes card′ out′ next
       unfolding stepBad progressOf
       breaks code known e =
           let f = bad-lies at end code fits known in
           let c = going .counted in
           let n : next .step .count ≡ g .step .count + 1 = ap (λ (p : Progress). p .state .step .count) e in
-          (e ∙ sym (bad-left at (progressOf g card out) (going .fuel) code (f .0) (going .enough) (sym is ∙ known)) ∙ going .whole, room, omega arith)
+          (e ∙ sym (bad-left at (progressOf g waiting card out) (going .fuel) code (f .0) (going .enough) (sym is ∙ known)) ∙ going .whole, room, omega arith)
 
-      module _ (start size : ℕ) (known : item ≡ Capdu start size) (e : progressOf next card′ out′ ≡ stepCapdu definite domain (part script start size) (progressOf g card out)) where
+      module _ (start size : ℕ) (known : item ≡ Capdu start size) (e : progressOf next bytes card′ out′ ≡ stepCapdu definite domain (part script start size) (progressOf g waiting card out)) where
         one-more : next .step .count ≡ g .step .count + 1
         unfolding progressOf
-        one-more = ap (λ (p : Progress). p .state .step .count) e ∙ counts-one definite domain (part script start size) (progressOf g card out)
+        one-more = ap (λ (p : Progress). p .state .step .count) e ∙ counts-one definite domain (part script start size) (progressOf g waiting card out)
 
-        same-end : {b : Bool} → goesOn (wordOf (next .step .outcome)) ≡ b → goesOn (wordOf (stepCapdu definite domain (part script start size) (progressOf g card out) .state .step .outcome)) ≡ b
+        same-end : {b : Bool} → goesOn (wordOf (next .step .outcome)) ≡ b → goesOn (wordOf (stepCapdu definite domain (part script start size) (progressOf g waiting card out) .state .step .outcome)) ≡ b
         unfolding progressOf
         same-end h = ap (λ (p : Progress). goesOn (wordOf (p .state .step .outcome))) (sym e) ∙ h
 
-        pub stops : goesOn (wordOf (next .step .outcome)) ≡ false → Done card′ out′ next
+        pub stops : goesOn (wordOf (next .step .outcome)) ≡ false → Done bytes card′ out′ next
         stops off =
             let c = going .counted in
             let n = one-more in
             let l = capdu-lies at end start size fits known in
-            (e ∙ sym (stop-left at (progressOf g card out) start size (l .0) (l .1) (sym is ∙ known) (going .fuel) (going .enough) (same-end off)) ∙ going .whole, room, omega arith)
+            (e ∙ sym (stop-left at (progressOf g waiting card out) start size (l .0) (l .1) (sym is ∙ known) (going .fuel) (going .enough) (same-end off)) ∙ going .whole, room, omega arith)
 
-        pub goes : ((i : ℕ) → byte script i < 256) → next .kept ≤ mostKept → goesOn (wordOf (next .step .outcome)) ≡ true → Going card′ out′ next (start + size)
+        pub goes : ((i : ℕ) → byte script i < 256) → next .kept ≤ mostKept → goesOn (wordOf (next .step .outcome)) ≡ true → Going bytes card′ out′ next (start + size)
         unfolding progressOf
         goes small few on =
             let c = going .counted in
             let n = one-more in
             let l = capdu-lies at end start size fits known in
-            let k = on-left at (progressOf g card out) start size (l .0) (l .1) (sym is ∙ known) (going .fuel) (going .enough) (same-end on) in
+            let k = on-left at (progressOf g waiting card out) start size (l .0) (l .1) (sym is ∙ known) (going .fuel) (going .enough) (same-end on) in
             record {
               inside = l .1;
               counted = omega arith;
               kept = few;
               room = room;
-              holds = subst (λ (p : Progress). Holds (takenBack card₀) (p .state .step .session) (p .state .card)) (sym e) (script-capdu-holds script small (takenBack card₀) domain definite start size (progressOf g card out) (going .holds));
+              holds = subst (λ (p : Progress). Holds (takenBack card₀) (p .state .step .session) (p .state .waiting) (p .state .card)) (sym e) (script-capdu-holds script small (takenBack card₀) domain definite start size (progressOf g waiting card out) (going .holds));
               fuel = k .0;
               enough = k .1;
               whole = ap (λ (p : Progress). runFrom (k .0) script domain definite (start + size) end p) e ∙ k .2 ∙ going .whole;

@@ -1,4 +1,4 @@
--- An expanded script of bytes keeps its card sound, scripts on trial, its session good, and what a take-back gives. Assumes nothing.
+-- An expanded script of bytes keeps its card sound, scripts on trial, its session good, 255 waiting bytes, and what a take-back gives. Assumes nothing.
 use mathlib.Core.Bool.{Bool, true, false}
 use mathlib.Core.List.{List}
 use Prim.Native.Nat.{ℕ, zero, suc, _+_, _≤_, _<_}
@@ -9,18 +9,19 @@ use Rattle.octets.proofs.Picks.{on-pick, on-test}
 use Rattle.octets.specs.Bytes.{byte, part}
 use Rattle.octets.proofs.Numbers.{byte-part}
 use Rattle.card.specs.Row.{Card}
-use Rattle.session.specs.Session.{start}
+use Rattle.tlv.specs.declared.template.Template.{Template}
+use Rattle.tlv.specs.declared.template.Template.the-variants.{Definite, Indefinite, Missing}
+use Rattle.tlv.specs.declared.template.Item.{Item}
+use Rattle.tlv.specs.declared.template.Item.the-variants.{Capdu, Bad, End}
+use Rattle.tlv.specs.Templates.{itemAt}
+use Rattle.session.specs.Session.{start, startWaiting}
 use Rattle.command.specs.declared.Format.the-variants.{Expanded}
 use Rattle.command.specs.Outcomes.{wordOf, goesOn}
 use Rattle.command.specs.Commands.{State, started, stepped}
 use Rattle.command.proofs.Keeps.{Holds, Carries, command-holds, failed-holds}
-use Rattle.expanded.specs.declared.template.Template.{Template}
-use Rattle.expanded.specs.declared.template.Template.the-variants.{Definite, Indefinite, Missing}
-use Rattle.expanded.specs.declared.template.Item.{Item}
-use Rattle.expanded.specs.declared.template.Item.the-variants.{Capdu, Bad, End}
-use Rattle.expanded.specs.Templates.{itemAt}
+use Rattle.step.specs.Limits.{limited}
 use Rattle.expanded.specs.Capdu.{carried, capduCommand}
-use Rattle.expanded.specs.Expanded.{limited, Progress, answered, stepCapdu, stepBad, runFrom, begun, run}
+use Rattle.expanded.specs.Expanded.{Progress, answered, stepCapdu, stepBad, runFrom, begun, run}
 
 -- a C-APDU of bytes carries at most 255 of them
 module _ (script : List ℕ) (small : (i : ℕ) → byte script i < 256) where
@@ -41,9 +42,9 @@ brief capdu from b = rw length-take (omega (arith, few capdu b))
 -- a step
 module _ (before : Card) where
   abbrev Kept : Progress → Type 0
-  Kept p = Holds before (p .state .step .session) (p .state .card)
+  Kept p = Holds before (p .state .step .session) (p .state .waiting) (p .state .card)
 
-  answered-holds : (counts : Bool) (st : State) (kept r : List ℕ) → Holds before (st .step .session) (st .card) → Kept (answered counts st kept r)
+  answered-holds : (counts : Bool) (st : State) (kept r : List ℕ) → Holds before (st .step .session) (st .waiting) (st .card) → Kept (answered counts st kept r)
   unfolding answered
   answered-holds counts st kept r h = on-pick Kept counts _ _ (λ y. h) (λ n. h)
 
@@ -51,9 +52,10 @@ module _ (before : Card) where
   unfolding stepCapdu limited stepped capduCommand
   capdu-holds definite domain capdu p b h =
       let s = p .state .step .session in
+      let waiting = p .state .waiting in
       let card = p .state .card in
       answered-holds _ _ _ _
-      (on-pick (Carries before s card h) _ _ _ (λ y. failed-holds before s card h 0x6F00) (λ n. command-holds before s card h Expanded domain _ _ (brief capdu (capduCommand capdu .from) b)))
+      (on-pick (Carries before s waiting card h) _ _ _ (λ y. failed-holds before s waiting card h 0x6F00) (λ n. command-holds before s waiting card h Expanded domain _ _ (brief capdu (capduCommand capdu .from) b)))
 
   bad-holds : (code : ℕ) (p : Progress) → Kept p → Kept (stepBad code p)
   unfolding stepBad
@@ -79,7 +81,8 @@ module _ (script : List ℕ) (small : (i : ℕ) → byte script i < 256) (before
       (λ code. bad-holds before code p h)
       h
 
-pub run-keeps : (script : List ℕ) → ((i : ℕ) → byte script i < 256) → (before : Card) (template : Template) (application domain : ℕ) (card : Card) → Holds before (start application) card → Holds before (run template script application domain card .state .step .session) (run template script application domain card .state .card)
+pub run-keeps : (script : List ℕ) → ((i : ℕ) → byte script i < 256) → (before : Card) (template : Template) (application domain : ℕ) (card : Card) → Holds before (start application) startWaiting card
+    → Holds before (run template script application domain card .state .step .session) (run template script application domain card .state .waiting) (run template script application domain card .state .card)
 unfolding run begun started
 run-keeps script small before (Definite at end) application domain card h = run-holds script small before domain true (length script) at end (begun application card) h
 run-keeps script small before (Indefinite at end) application domain card h = run-holds script small before domain false (length script) at end (begun application card) h

@@ -1,44 +1,19 @@
--- The bytes of a length and of a count by their size, a written run of bytes by its other name, one written run behind another, and an R-APDU and
--- the answers in their writes. Assumes nothing.
+-- The bytes of a count by its size, one written run of bytes behind another, and an R-APDU and the answers in their writes. Assumes nothing.
 use mathlib.Core.Path.{_≡_, refl, sym, ap, _∙_}
 use mathlib.Core.List.{List, [], _∷_, _++_, append-assoc}
 use Prim.Native.Nat.{ℕ, _+_, _≤_, _<_}
 use native.Mathlib.Omega.{arith}
-use lib.Dec.{ltb}
 use lib.ListN.{length, length-append}
 use Rattle.octets.specs.Bytes.{bytes2, overwrite}
-use Rattle.octets.proofs.Picks.{lt-yes, lt-no, on-pick}
+use Rattle.octets.proofs.Picks.{lt-yes, lt-no}
 use Rattle.octets.proofs.Writes.{write-two}
-use Rattle.expanded.specs.Lengths.{lengthBytes, countBytes}
-use Rattle.expanded.specs.Expanded.{rapdu, rapduSize, definiteBody, definiteAnswer, indefiniteAnswer}
+use Rattle.tlv.specs.Lengths.{lengthBytes}
+use Rattle.tlv.proofs.Written.{length-one, length-few}
+use Rattle.step.specs.Limits.{rapduSize}
+use Rattle.expanded.specs.Expanded.{rapdu, countBytes, definiteBody, definiteAnswer, indefiniteAnswer}
 
--- the bytes of a length, by its size
+-- the bytes of a count, by its size
 module _ (n : ℕ) where
-  pub length-one : n < 0x80 → n ∷ [] ≡ lengthBytes n
-  unfolding lengthBytes
-  length-one h = lt-yes n 0x80 _ h refl
-
-  pub length-two : 0x80 ≤ n → n < 0x0100 → 0x81 ∷ n ∷ [] ≡ lengthBytes n
-  unfolding lengthBytes
-  length-two h g = lt-no n 0x80 _ h (lt-yes n 0x0100 _ g refl)
-
-  pub length-three : 0x80 ≤ n → 0x0100 ≤ n → 0x82 ∷ bytes2 n ≡ lengthBytes n
-  unfolding lengthBytes
-  length-three h g = lt-no n 0x80 _ h (lt-no n 0x0100 _ g refl)
-
-  pub length-some : 1 ≤ length (lengthBytes n)
-  unfolding lengthBytes
-  length-some =
-      on-pick (λ (d : List ℕ). 1 ≤ length d) (ltb n 0x80) _ _ (λ e. omega arith)
-      (λ e. on-pick (λ (d : List ℕ). 1 ≤ length d) (ltb n 0x0100) _ _ (λ f. omega arith) (λ f. omega arith))
-
-  pub length-few : length (lengthBytes n) ≤ 3
-  unfolding lengthBytes bytes2
-  length-few =
-      on-pick (λ (d : List ℕ). length d ≤ 3) (ltb n 0x80) _ _ (λ e. omega arith)
-      (λ e. on-pick (λ (d : List ℕ). length d ≤ 3) (ltb n 0x0100) _ _ (λ f. omega arith) (λ f. omega arith))
-
-  -- the bytes of a count, by its size
   pub count-one : n < 0x80 → n ∷ [] ≡ countBytes n
   unfolding countBytes
   count-one h = lt-yes n 0x80 _ h refl
@@ -47,11 +22,8 @@ module _ (n : ℕ) where
   unfolding countBytes
   count-two h = lt-no n 0x80 _ h refl
 
--- a written run by its other name, and one run behind another
+-- one written run behind another
 module _ (m : List ℕ) (p : ℕ) where
-  pub named : (k : ℕ) {w d e : List ℕ} → d ≡ e → k ≡ length d → w ≡ overwrite m p d → (w ≡ overwrite m p e) × (p + k ≡ p + length e)
-  named k h l f = (rw h at f, ap (λ (x : ℕ). p + x) (l ∙ ap length h))
-
   pub after : (a b : List ℕ) {w u : List ℕ} {q : ℕ} → w ≡ overwrite m p a → q ≡ p + length a → u ≡ overwrite w q b → p + length a + length b ≤ length m → u ≡ overwrite m p (a ++ b)
   after a b e f g fits = g ∙ (λ i. overwrite (e i) (f i) b) ∙ sym (write-two m p a b fits)
 

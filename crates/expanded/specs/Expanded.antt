@@ -1,4 +1,4 @@
--- "Expanded": R-APDUs, the 1,000-byte rule, running a script, and the answer.
+-- "Expanded": R-APDUs, running a script under the 1,000-byte rule, and the answer.
 use Prim.Native.Nat.{ℕ, zero, suc, _+_}
 use mathlib.Core.Bool.{Bool, true, false, not, _||_}
 use mathlib.Core.List.{List, [], _∷_, _++_}
@@ -7,27 +7,24 @@ use lib.Dec.{ltb, eqb}
 use Rattle.octets.specs.Choice.{pick}
 use Rattle.octets.specs.Bytes.{bytes2, part}
 use Rattle.card.specs.Row.{Card}
+use Rattle.tlv.specs.declared.template.Template.{Template}
+use Rattle.tlv.specs.declared.template.Template.the-variants.{Definite, Indefinite, Missing}
+use Rattle.tlv.specs.declared.template.Item.the-variants.{Capdu, Bad, End}
+use Rattle.tlv.specs.Lengths.{lengthBytes}
+use Rattle.tlv.specs.Templates.{itemAt}
 use Rattle.session.specs.declared.Session.{Session}
 use Rattle.command.specs.declared.Format.the-variants.{Expanded}
 use Rattle.command.specs.declared.Reading.{Reading}
 use Rattle.command.specs.declared.Step.{Step}
-use Rattle.command.specs.Outcomes.{Plan, failed, wordOf, dataOf, dataCount, goesOn}
+use Rattle.command.specs.Outcomes.{Plan, wordOf, dataOf, goesOn}
 use Rattle.command.specs.Commands.{State, stateOf, started, planned, situation, carriedOut, stepped}
+use Rattle.step.specs.Limits.{mostKept, limited}
 use Rattle.expanded.specs.declared.run.Gathered.{Gathered}
-use Rattle.expanded.specs.declared.template.Template.{Template}
-use Rattle.expanded.specs.declared.template.Template.the-variants.{Definite, Indefinite, Missing}
-use Rattle.expanded.specs.declared.template.Item.the-variants.{Capdu, Bad, End}
-use Rattle.expanded.specs.Lengths.{lengthBytes, countBytes}
-use Rattle.expanded.specs.Templates.{itemAt}
 use Rattle.expanded.specs.Capdu.{capduCommand}
 
 -- "R-APDU: 23, length, data, status."
 unfoldable pub rapdu : List ℕ → ℕ → List ℕ
 rapdu d word = 0x23 ∷ (lengthBytes (length d + 2) ++ (d ++ bytes2 word))
-
--- how many bytes an R-APDU takes whose data are n bytes
-unfoldable pub rapduSize : ℕ → ℕ
-rapduSize n = 1 + (length (lengthBytes (n + 2)) + (n + 2))
 
 -- "Bad format TLV 90 01"
 unfoldable pub badFormat : ℕ → List ℕ
@@ -36,16 +33,6 @@ badFormat code = 0x90 ∷ 1 ∷ code ∷ []
 -- "R-APDUs of case 2 and 4 commands (by size)" under AA, "all R-APDUs" under AE
 abbrev pub keeps : Bool → ℕ → Bool
 keeps definite case = not definite || (eqb case 2 || eqb case 4)
-
--- "would pass 1,000 bytes"
-abbrev pub mostKept : ℕ
-mostKept = 1000
-
--- "If R-APDUs kept so far and this one (0 for AA and case 1 or 3 or a bad size) would pass 1,000 bytes, the command changes
--- nothing, gets 6F00 and stops."
-unfoldable pub limited : ℕ → Bool → Session → Plan → Plan
-limited kept counts s p =
-    pick (ltb mostKept (kept + pick counts (rapduSize (dataCount (p .outcome))) 0)) (failed s 0x6F00) p
 
 -- an expanded script after some commands: the state, the R-APDUs kept so far, and what else stands in the answer should no command
 -- follow: the R-APDU of the last command where it is not kept, or the Bad format TLV
@@ -59,9 +46,9 @@ abbrev pub roomToGather : ℕ
 roomToGather = mostKept + 4
 
 -- the progress whose R-APDUs are gathered in a buffer
-unfoldable pub progressOf : Gathered → Card → List ℕ → Progress
-progressOf g card out =
-    record { state = stateOf (g .step) card; kept = take (g .kept) out; last = part out (g .kept) (g .last) }
+unfoldable pub progressOf : Gathered → List ℕ → Card → List ℕ → Progress
+progressOf g waiting card out =
+    record { state = stateOf (g .step) waiting card; kept = take (g .kept) out; last = part out (g .kept) (g .last) }
 
 -- a command's R-APDU goes to those kept, or stands last for now
 unfoldable pub answered : Bool → State → List ℕ → List ℕ → Progress
@@ -77,9 +64,9 @@ gatheredIn counts step kept n =
     (record { step = step; kept = kept + n; last = 0 })
     (record { step = step; kept = kept; last = n })
 
--- the R-APDU of the last command, with the file memory after it
-unfoldable pub lastRapdu : Step → List ℕ → List ℕ
-lastRapdu step files = rapdu (dataOf (step .outcome) files (step .session .waiting)) (wordOf (step .outcome))
+-- the R-APDU of the last command, with the file memory and the waiting bytes after it
+unfoldable pub lastRapdu : Step → List ℕ → List ℕ → List ℕ
+lastRapdu step files waiting = rapdu (dataOf (step .outcome) files waiting) (wordOf (step .outcome))
 
 -- a C-APDU is run
 unfoldable pub stepCapdu : Bool → ℕ → List ℕ → Progress → Progress
@@ -91,9 +78,10 @@ stepCapdu definite domain capdu p =
     planned (situation Expanded domain (r .command) (part capdu (r .from) (r .count)) session (p .state .card))
     in
     let st : State =
-    stepped (p .state) (carriedOut (limited (length (p .kept)) counts session plan) (p .state .card))
+    stepped (p .state)
+    (carriedOut (limited (length (p .kept)) counts session plan) (p .state .waiting) (p .state .card))
     in
-    answered counts st (p .kept) (lastRapdu (st .step) (st .card .files))
+    answered counts st (p .kept) (lastRapdu (st .step) (st .card .files) (st .waiting))
 
 -- a Bad format TLV: "It counts and stops."
 unfoldable pub stepBad : ℕ → Progress → Progress
@@ -103,6 +91,7 @@ stepBad code p =
       state =
           record {
             step = record { session = step .session; outcome = step .outcome; count = step .count + 1 };
+            waiting = p .state .waiting;
             card = p .state .card;
           };
       kept = p .kept;
@@ -135,6 +124,10 @@ run (Definite at end) script application domain card =
 run (Indefinite at end) script application domain card =
     runFrom (length script) script domain false at end (begun application card)
 run Missing script application domain card = begun application card
+
+-- "count as shortest signed integer (128 is 00 80)"; a script has less than 32,768 commands
+unfoldable pub countBytes : ℕ → List ℕ
+countBytes n = pick (ltb n 0x80) (n ∷ []) (bytes2 n)
 
 -- "AA answers AB, length, 80, length, count .., R-APDUs": what stands behind the first length, and the whole
 unfoldable pub definiteBody : ℕ → List ℕ → List ℕ

@@ -1,4 +1,2 @@
-pub mod Lengths
-pub mod Templates
 pub mod Capdu
 pub mod Expanded

@@ -1,14 +1,15 @@
-// Writing the answer: lengths, R-APDUs, Bad format TLVs and the count of commands. What comes out is the place after what was written.
+// Writing the answer: R-APDUs, Bad format TLVs and the count of commands. What comes out is the place after what was written.
 use command::Outcome;
 use command::ends::data_count;
 use command::ends::put_data;
 use command::ends::word_of;
+use tlv::lengths::put_length;
 ghost use mathlib.Core.Path.{_≡_};
 ghost use Prim.Native.Nat.{_+_, _≤_, _<_};
 ghost use lib.ListN.{length};
 ghost use Rattle.octets.specs.Bytes.{overwrite};
 ghost use Rattle.command.specs.Outcomes.{wordOf, dataOf, dataCount, OutcomeFits};
-ghost use Rattle.expanded.specs.Lengths.{lengthBytes, countBytes};
+ghost use Rattle.step.specs.Limits.{rapduSize};
 ghost use Rattle.expanded.specs.Expanded as spec;
 
 const RAPDU: u8 = 0x23;
@@ -21,48 +22,10 @@ const INDEFINITE: u8 = 0xAF;
 
 const COUNT: u8 = 0x80;
 
-// How many bytes the shortest form of a length takes.
-pub fn length_size(n: usize) -> usize
-    ensures { λ r. ⌜ (r ≡ length (lengthBytes n)) × (r ≤ 3) ⌝ }
-{
-    if n < 0x80 {
-        return 1;
-    }
-    if n < 0x0100 {
-        return 2;
-    }
-    3
-}
-
-// A length is written at a place, in its shortest form.
-pub fn put_length(out: &mut [u8], at: usize, n: usize) -> usize
-    requires { ⌜ (at + 3 ≤ length (now out)) × (n < 65536) ⌝ }
-    ensures { λ r. ⌜ (now (out .exit) ≡ overwrite (now (out .entry)) at (lengthBytes n)) × (r ≡ at + length (lengthBytes n)) ⌝ }
-{
-    if n < 0x80 {
-        octets::fill(out, at, 1, n as u8);
-        return at + 1;
-    }
-    if n < 0x0100 {
-        octets::copy(out, at, &[0x81, n as u8]);
-        return at + 2;
-    }
-    octets::copy(out, at, &[0x82, (n / 256 % 256) as u8, (n % 256) as u8]);
-    at + 3
-}
-
-// How many bytes an R-APDU takes whose data are n bytes.
-pub fn rapdu_size(n: usize) -> usize
-    requires { ⌜ n + 2 < 65536 ⌝ }
-    ensures { λ r. ⌜ (r ≡ spec.rapduSize n) × (r ≤ n + 6) ⌝ }
-{
-    1 + (length_size(n + 2) + (n + 2))
-}
-
 // The R-APDU of an outcome is written at a place.
 pub fn put_rapdu(out: &mut [u8], at: usize, o: Outcome, files: &[u8], waiting: &[u8]) -> usize
-    requires { ⌜ OutcomeFits (length (now files)) o × (length (now waiting) ≡ 255) × (at + spec.rapduSize (dataCount o) ≤ length (now out)) ⌝ }
-    ensures { λ r. ⌜ (now (out .exit) ≡ overwrite (now (out .entry)) at (spec.rapdu (dataOf o (now (files .entry)) (now (waiting .entry))) (wordOf o))) × (r ≡ at + spec.rapduSize (dataCount o)) ⌝ }
+    requires { ⌜ OutcomeFits (length (now files)) o × (length (now waiting) ≡ 255) × (at + rapduSize (dataCount o) ≤ length (now out)) ⌝ }
+    ensures { λ r. ⌜ (now (out .exit) ≡ overwrite (now (out .entry)) at (spec.rapdu (dataOf o (now (files .entry)) (now (waiting .entry))) (wordOf o))) × (r ≡ at + rapduSize (dataCount o)) ⌝ }
 {
     octets::fill(out, at, 1, RAPDU);
     let from = put_length(out, at + 1, data_count(o) + 2);
@@ -82,7 +45,7 @@ pub fn put_bad(out: &mut [u8], at: usize, code: usize) -> usize
 
 // How many bytes the count of commands takes.
 fn count_size(n: usize) -> usize
-    ensures { λ r. ⌜ (r ≡ length (countBytes n)) × (r ≤ 2) ⌝ }
+    ensures { λ r. ⌜ (r ≡ length (spec.countBytes n)) × (r ≤ 2) ⌝ }
 {
     if n < 0x80 {
         return 1;
@@ -93,7 +56,7 @@ fn count_size(n: usize) -> usize
 // The count of commands is written at a place, as shortest signed integer.
 pub fn put_count(out: &mut [u8], at: usize, n: usize) -> usize
     requires { ⌜ at + 2 ≤ length (now out) ⌝ }
-    ensures { λ r. ⌜ (now (out .exit) ≡ overwrite (now (out .entry)) at (countBytes n)) × (r ≡ at + length (countBytes n)) ⌝ }
+    ensures { λ r. ⌜ (now (out .exit) ≡ overwrite (now (out .entry)) at (spec.countBytes n)) × (r ≡ at + length (spec.countBytes n)) ⌝ }
 {
     if n < 0x80 {
         octets::fill(out, at, 1, n as u8);

@@ -1,13 +1,13 @@
 // What a reader of a script finds in the value of a template.
-use crate::template::Item;
-use crate::template::item_at;
 use command::reader::Reader;
 use command::reader::at_front;
 use command::reader::moved_on;
+use tlv::template::Item;
+use tlv::template::item_at;
 ghost use mathlib.Core.Path.{_≡_};
 ghost use Prim.Native.Nat.{_≤_};
 ghost use lib.ListN.{length};
-ghost use Rattle.expanded.specs.Templates as spec;
+ghost use Rattle.tlv.specs.Templates as spec;
 
 // What stands at a reader's place, in a value that ends at `end`.
 fn item_of<'a>(r: Reader<'a>, end: usize) -> Item

@@ -1,23 +1,15 @@
 // Running an expanded script.
 use crate::answer::put_bad;
 use crate::answer::put_rapdu;
-use crate::answer::rapdu_size;
 use crate::capdu::command_of;
 use crate::reader::next_item;
-use crate::template::Item;
-use crate::template::capdu;
-use command::Command;
 use command::Format;
 use command::Outcome;
 use command::Step;
-use command::ends::data_count;
 use command::ends::goes_on;
 use command::ends::word_of;
-use session::Session;
-use step::act::carry_out;
-use step::decide::decide;
-use step::plan::Decision;
-use step::plan::failed;
+use tlv::template::Item;
+use tlv::template::capdu;
 ghost use mathlib.Core.Path.{_≡_};
 ghost use mathlib.Core.Bool.{true};
 ghost use mathlib.Core.List.{List};
@@ -29,13 +21,10 @@ ghost use Rattle.card.specs.Tree.{isRoot};
 ghost use Rattle.journal.specs.Entries.{scriptsOnTrial};
 ghost use Rattle.journal.specs.Sound.{soundCard};
 ghost use Rattle.session.specs.Good.{Good};
-ghost use Rattle.command.specs.Outcomes.{Plan, wordOf, dataCount, OutcomeFits, goesOn};
-ghost use Rattle.command.specs.Commands.{stateOf, situation, planned, carriedOut, stepped};
-ghost use Rattle.step.specs.Decisions.{Ready, Decided};
+ghost use Rattle.session.specs.Session.{startWaiting};
+ghost use Rattle.command.specs.Outcomes.{wordOf, dataCount, OutcomeFits, goesOn};
+ghost use Rattle.step.specs.Limits.{rapduSize};
 ghost use Rattle.expanded.specs.Expanded as spec;
-
-// "would pass 1,000 bytes"
-const MOST_KEPT: usize = 1000;
 
 // The bytes that a script's R-APDUs are gathered in: 1,000, and the R-APDU of a last command without data.
 pub const ROOM_TO_GATHER: usize = 1004;
@@ -55,57 +44,20 @@ fn keeps(definite: bool, case: usize) -> bool
     !definite | ((case == 2) | (case == 4))
 }
 
-// What was decided, under the 1,000-byte rule.
-fn limited(d: Decision, s: Session, kept: usize, counts: bool) -> Decision
-    requires { ⌜ (kept ≤ 1000) × (dataCount (d .outcome) ≤ 256) ⌝ }
-    ensures { λ r. ⌜ ((card : Card) («data» : List ℕ) (plan : Plan) → Decided card «data» plan d → Decided card «data» (spec.limited kept counts s plan) r) ⌝ }
-{
-    let outcome = d.outcome;
-    if counts & (MOST_KEPT < kept + rapdu_size(data_count(outcome))) {
-        return failed(s, 0x6F00);
-    }
-    d
-}
-
-// A command with its data is run under the 1,000-byte rule: the script's step after it.
-fn run_limited(
-    domain: usize,
-    c: Command,
-    data: &[u8],
-    kept: usize,
-    counts: bool,
-    before: Step,
-    table: &mut [u8],
-    files: &mut [u8],
-    journal: &mut [u8],
-) -> Step
-    requires { ⌜ Ready (lent (now table) (now files) (now journal)) (before .session) c (length (now «data»)) × (before .count < 65535) × (kept ≤ 1000) ⌝ }
-    ensures { λ r. ⌜ stateOf r (lent (now (table .exit)) (now (files .exit)) (now (journal .exit)))
-        ≡ stepped (stateOf before (lent (now (table .entry)) (now (files .entry)) (now (journal .entry))))
-        (carriedOut (spec.limited kept counts (before .session) (planned (situation Format.Expanded domain c (now («data» .entry)) (before .session) (lent (now (table .entry)) (now (files .entry)) (now (journal .entry))))))
-        (lent (now (table .entry)) (now (files .entry)) (now (journal .entry)))) ⌝ }
-{
-    let s = before.session;
-    let d = decide(Format::Expanded, domain, c, data, s, table, files, journal);
-    carry_out(
-        limited(d, s, kept, counts),
-        data,
-        before.count,
-        table,
-        files,
-        journal,
-    )
-}
-
 // The R-APDU of a script's last command is gathered behind those kept.
-fn gather(counts: bool, step: Step, kept: usize, out: &mut [u8], files: &[u8]) -> Gathered
-    requires { ⌜ OutcomeFits (length (now files)) (step .outcome) × (kept + spec.rapduSize (dataCount (step .outcome)) ≤ length (now out)) ⌝ }
-    ensures { λ r. ⌜ (now (out .exit) ≡ overwrite (now (out .entry)) kept (spec.lastRapdu step (now (files .entry)))) × (length (spec.lastRapdu step (now (files .entry))) ≡ spec.rapduSize (dataCount (step .outcome))) × (r ≡ spec.gatheredIn counts step kept (spec.rapduSize (dataCount (step .outcome)))) ⌝ }
+fn gather(
+    counts: bool,
+    step: Step,
+    kept: usize,
+    out: &mut [u8],
+    files: &[u8],
+    waiting: &[u8],
+) -> Gathered
+    requires { ⌜ (length (now waiting) ≡ 255) × OutcomeFits (length (now files)) (step .outcome) × (kept + rapduSize (dataCount (step .outcome)) ≤ length (now out)) ⌝ }
+    ensures { λ r. ⌜ (now (out .exit) ≡ overwrite (now (out .entry)) kept (spec.lastRapdu step (now (files .entry)) (now (waiting .entry)))) × (length (spec.lastRapdu step (now (files .entry)) (now (waiting .entry))) ≡ rapduSize (dataCount (step .outcome))) × (r ≡ spec.gatheredIn counts step kept (rapduSize (dataCount (step .outcome)))) ⌝ }
 {
     let outcome = step.outcome;
-    let session = step.session;
-    let waiting = session.waiting;
-    let end = put_rapdu(out, kept, outcome, files, &waiting);
+    let end = put_rapdu(out, kept, outcome, files, waiting);
     if counts {
         return Gathered {
             step,
@@ -127,12 +79,14 @@ fn step_capdu(
     capdu: &[u8],
     before: Gathered,
     out: &mut [u8],
+    made: &mut [u8],
+    waiting: &mut [u8],
     table: &mut [u8],
     files: &mut [u8],
     journal: &mut [u8],
 ) -> Gathered
-    requires { ⌜ (4 ≤ length (now capdu)) × (soundCard (lent (now table) (now files) (now journal)) ≡ true) × Good (now table) (before .step .session) × (before .step .count < 65535) × (before .kept ≤ 1000) × (length (now out) ≡ 1004) ⌝ }
-    ensures { λ r. ⌜ (spec.progressOf r (lent (now (table .exit)) (now (files .exit)) (now (journal .exit))) (now (out .exit)) ≡ spec.stepCapdu definite domain (now (capdu .entry)) (spec.progressOf before (lent (now (table .entry)) (now (files .entry)) (now (journal .entry))) (now (out .entry))))
+    requires { ⌜ (4 ≤ length (now capdu)) × (soundCard (lent (now table) (now files) (now journal)) ≡ true) × Good (now table) (before .step .session) × (before .step .count < 65535) × (before .kept ≤ 1000) × (length (now out) ≡ 1004) × (length (now made) ≡ 255) × (length (now waiting) ≡ 255) ⌝ }
+    ensures { λ r. ⌜ (spec.progressOf r (now (waiting .exit)) (lent (now (table .exit)) (now (files .exit)) (now (journal .exit))) (now (out .exit)) ≡ spec.stepCapdu definite domain (now (capdu .entry)) (spec.progressOf before (now (waiting .entry)) (lent (now (table .entry)) (now (files .entry)) (now (journal .entry))) (now (out .entry))))
         × (r .kept + r .last ≤ 1004) × (goesOn (wordOf (r .step .outcome)) ≡ true → r .kept ≤ 1000) ⌝ }
 {
     let r = command_of(capdu);
@@ -141,24 +95,27 @@ fn step_capdu(
     let c = r.command;
     let counts = keeps(definite, c.case);
     let kept = before.kept;
-    let step = run_limited(
+    let step = step::lent::run_step(
+        Format::Expanded,
         domain,
         c,
         &capdu[from..end],
+        before.step,
         kept,
         counts,
-        before.step,
+        made,
+        waiting,
         table,
         files,
         journal,
     );
-    gather(counts, step, kept, out, files)
+    gather(counts, step, kept, out, files, waiting)
 }
 
 // A Bad format TLV is gathered as the last command.
 fn step_bad(code: usize, before: Gathered, out: &mut [u8]) -> Gathered
     requires { ⌜ (code < 256) × (before .step .count < 65535) × (before .kept ≤ 1000) × (length (now out) ≡ 1004) ⌝ }
-    ensures { λ r. ⌜ ((card : Card) → spec.progressOf r card (now (out .exit)) ≡ spec.stepBad code (spec.progressOf before card (now (out .entry)))) × (r .kept + r .last ≤ 1004) ⌝ }
+    ensures { λ r. ⌜ ((waiting : List ℕ) (card : Card) → spec.progressOf r waiting card (now (out .exit)) ≡ spec.stepBad code (spec.progressOf before waiting card (now (out .entry)))) × (r .kept + r .last ≤ 1004) ⌝ }
 {
     let kept = before.kept;
     let place = put_bad(out, kept, code);
@@ -180,12 +137,13 @@ pub fn run(
     application: usize,
     domain: usize,
     out: &mut [u8],
+    waiting: &mut [u8],
     table: &mut [u8],
     files: &mut [u8],
     journal: &mut [u8],
 ) -> Gathered
-    requires { ⌜ (at ≤ end) × (end ≤ length (now script)) × (length (now script) ≤ 1024) × (soundCard (lent (now table) (now files) (now journal)) ≡ true) × (1 ≤ scriptsOnTrial (now journal)) × (application < entries (now table)) × (isRoot (rowOf (now table) application) ≡ true) × (length (now out) ≡ 1004) ⌝ }
-    ensures { λ r. ⌜ (spec.progressOf r (lent (now (table .exit)) (now (files .exit)) (now (journal .exit))) (now (out .exit)) ≡ spec.runFrom (length (now (script .entry))) (now (script .entry)) domain definite at end (spec.begun application (lent (now (table .entry)) (now (files .entry)) (now (journal .entry)))))
+    requires { ⌜ (at ≤ end) × (end ≤ length (now script)) × (length (now script) ≤ 1024) × (soundCard (lent (now table) (now files) (now journal)) ≡ true) × (1 ≤ scriptsOnTrial (now journal)) × (application < entries (now table)) × (isRoot (rowOf (now table) application) ≡ true) × (length (now out) ≡ 1004) × (now waiting ≡ startWaiting) ⌝ }
+    ensures { λ r. ⌜ (spec.progressOf r (now (waiting .exit)) (lent (now (table .exit)) (now (files .exit)) (now (journal .exit))) (now (out .exit)) ≡ spec.runFrom (length (now (script .entry))) (now (script .entry)) domain definite at end (spec.begun application (lent (now (table .entry)) (now (files .entry)) (now (journal .entry)))))
         × (r .kept + r .last ≤ 1004) × (r .step .count ≤ 1024) ⌝ }
 {
     let mut g = Gathered {
@@ -197,6 +155,7 @@ pub fn run(
         kept: 0,
         last: 0,
     };
+    let mut made = [0; 255];
     let mut place: usize = at;
     loop {
         match next_item(script, place, end) {
@@ -207,6 +166,8 @@ pub fn run(
                     capdu(script, from, size),
                     g,
                     out,
+                    &mut made,
+                    waiting,
                     table,
                     files,
                     journal,

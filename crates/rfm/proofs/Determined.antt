@@ -1,7 +1,7 @@
 -- Each of the three contracts allows one result: whatever the arguments and the first contents of the lent memories, two results
 -- that it allows are the same number, and leave the same bytes in each lent memory. Assumes nothing.
 use Prim.Native.Nat.{ℕ}
-use mathlib.Core.Path.{_≡_, sym, ap, _∙_}
+use mathlib.Core.Path.{_≡_, refl}
 use mathlib.Core.List.{[]}
 use contract.Lifetimes.{Lfts}
 use denote.Ref.{now}
@@ -28,14 +28,7 @@ pub record Same (one other : Crossed) : Type 0 where
 
 same : (one other given : Crossed) → one ≡ given → other ≡ given → Same one other
 same one other given e f =
-    let k : one ≡ other = e ∙ sym f in
-    record {
-      sum = ap (λ (r : Crossed). r .sum) k;
-      table = ap (λ (r : Crossed). r .card .table) k;
-      files = ap (λ (r : Crossed). r .card .files) k;
-      journal = ap (λ (r : Crossed). r .card .journal) k;
-      response = ap (λ (r : Crossed). r .response) k;
-    }
+    rw (e, f) (record { sum = refl; table = refl; files = refl; journal = refl; response = refl })
 
 -- `rfm_run`, called with table, files, journal, application, domain, format, script and response memory
 module _ (κs : Lfts 5) (args : Dens κs run.ps) where

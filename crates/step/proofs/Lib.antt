@@ -1,4 +1,3 @@
 pub mod Plans
 pub mod Passed
-pub mod Sums
-pub mod Acts
+pub mod Limited

@@ -1,4 +1,4 @@
-// A session that is lent to a command: its directory, file, record number and waiting bytes move on.
+// A session that is lent to a command: its directory, file and record number move on, and with them the waiting bytes.
 use crate::run_command;
 use command::Command;
 use command::Format;
@@ -6,11 +6,13 @@ use command::Outcome;
 use command::Step;
 use session::Session;
 ghost use mathlib.Core.Path.{_≡_};
-ghost use Prim.Native.Nat.{_+_, _<_};
+ghost use Prim.Native.Nat.{_+_, _≤_, _<_};
 ghost use lib.ListN.{length};
 ghost use Rattle.card.specs.Row.{lent};
 ghost use Rattle.command.specs.Commands.{stateOf, situation, planned, carriedOut, stepped};
-ghost use Rattle.step.specs.Decisions.{Ready, movedTo};
+ghost use Rattle.plan.specs.Decisions.{movedTo};
+ghost use Rattle.step.specs.Limits as limits;
+ghost use Rattle.step.specs.Decisions.{Ready};
 
 // How a command ended, and how many there were with it.
 pub struct Ended {
@@ -26,13 +28,18 @@ fn step(
     c: Command,
     data: &[u8],
     count: usize,
+    kept: usize,
+    counts: bool,
+    made: &mut [u8],
+    waiting: &mut [u8],
     table: &mut [u8],
     files: &mut [u8],
     journal: &mut [u8],
 ) -> Ended
-    requires { ⌜ Ready (lent (now table) (now files) (now journal)) (now session) c (length (now «data»)) × (count < 65535) ⌝ }
-    ensures { λ r. ⌜ (movedTo (now (session .exit)) (r .outcome) (lent (now (table .exit)) (now (files .exit)) (now (journal .exit)))
-        ≡ carriedOut (planned (situation format domain c (now («data» .entry)) (now (session .entry)) (lent (now (table .entry)) (now (files .entry)) (now (journal .entry))))) (lent (now (table .entry)) (now (files .entry)) (now (journal .entry))))
+    requires { ⌜ Ready (lent (now table) (now files) (now journal)) (now session) c (length (now «data»)) × (count < 65535) × (kept ≤ 1000) × (length (now made) ≡ 255) × (length (now waiting) ≡ 255) ⌝ }
+    ensures { λ r. ⌜ (movedTo (now (session .exit)) (r .outcome) (now (waiting .exit)) (lent (now (table .exit)) (now (files .exit)) (now (journal .exit)))
+        ≡ carriedOut (limits.limited kept counts (now (session .entry)) (planned (situation format domain c (now («data» .entry)) (now (session .entry)) (lent (now (table .entry)) (now (files .entry)) (now (journal .entry))))))
+        (now (waiting .entry)) (lent (now (table .entry)) (now (files .entry)) (now (journal .entry))))
         × (r .count ≡ count + 1) ⌝ }
 {
     let after = run_command(
@@ -42,6 +49,10 @@ fn step(
         data,
         *session,
         count,
+        kept,
+        counts,
+        made,
+        waiting,
         table,
         files,
         journal,
@@ -60,15 +71,19 @@ pub fn run_step(
     c: Command,
     data: &[u8],
     before: Step,
+    kept: usize,
+    counts: bool,
+    made: &mut [u8],
+    waiting: &mut [u8],
     table: &mut [u8],
     files: &mut [u8],
     journal: &mut [u8],
 ) -> Step
-    requires { ⌜ Ready (lent (now table) (now files) (now journal)) (before .session) c (length (now «data»)) × (before .count < 65535) ⌝ }
-    ensures { λ r. ⌜ stateOf r (lent (now (table .exit)) (now (files .exit)) (now (journal .exit)))
-        ≡ stepped (stateOf before (lent (now (table .entry)) (now (files .entry)) (now (journal .entry))))
-        (carriedOut (planned (situation format domain c (now («data» .entry)) (before .session) (lent (now (table .entry)) (now (files .entry)) (now (journal .entry)))))
-        (lent (now (table .entry)) (now (files .entry)) (now (journal .entry)))) ⌝ }
+    requires { ⌜ Ready (lent (now table) (now files) (now journal)) (before .session) c (length (now «data»)) × (before .count < 65535) × (kept ≤ 1000) × (length (now made) ≡ 255) × (length (now waiting) ≡ 255) ⌝ }
+    ensures { λ r. ⌜ stateOf r (now (waiting .exit)) (lent (now (table .exit)) (now (files .exit)) (now (journal .exit)))
+        ≡ stepped (stateOf before (now (waiting .entry)) (lent (now (table .entry)) (now (files .entry)) (now (journal .entry))))
+        (carriedOut (limits.limited kept counts (before .session) (planned (situation format domain c (now («data» .entry)) (before .session) (lent (now (table .entry)) (now (files .entry)) (now (journal .entry))))))
+        (now (waiting .entry)) (lent (now (table .entry)) (now (files .entry)) (now (journal .entry)))) ⌝ }
 {
     let mut session = before.session;
     let ended = step(
@@ -78,6 +93,10 @@ pub fn run_step(
         c,
         data,
         before.count,
+        kept,
+        counts,
+        made,
+        waiting,
         table,
         files,
         journal,

@@ -1,23 +1,26 @@
-// One command on a card: decided first, with nothing lent to be written, and then done.
-pub mod act;
+// One command on a card: decided first, with nothing of the card lent to be written, and then done.
 pub mod decide;
 pub mod lent;
-pub mod plan;
+pub mod limit;
 
-use act::carry_out;
 use command::Command;
 use command::Format;
 use command::Step;
 use decide::decide;
+use limit::limited;
+use plan::act::carry_out;
 use session::Session;
 ghost use mathlib.Core.Path.{_≡_};
-ghost use Prim.Native.Nat.{_+_, _<_};
+ghost use Prim.Native.Nat.{_+_, _≤_, _<_};
 ghost use lib.ListN.{length};
 ghost use Rattle.card.specs.Row.{lent};
 ghost use Rattle.command.specs.Commands.{situation, planned, carriedOut};
-ghost use Rattle.step.specs.Decisions.{Ready, movedTo};
+ghost use Rattle.plan.specs.Decisions.{movedTo};
+ghost use Rattle.step.specs.Limits as limits;
+ghost use Rattle.step.specs.Decisions.{Ready};
 
-// One command on a card, with its data, in a session and after `count` others: the script's step after it.
+// One command on a card, with its data, in a session and after `count` others, where so many bytes of R-APDUs are kept and this one
+// counts or not: the script's step after it. What it makes stands in lent bytes until it is done.
 pub fn run_command(
     format: Format,
     domain: usize,
@@ -25,16 +28,29 @@ pub fn run_command(
     data: &[u8],
     s: Session,
     count: usize,
+    kept: usize,
+    counts: bool,
+    made: &mut [u8],
+    waiting: &mut [u8],
     table: &mut [u8],
     files: &mut [u8],
     journal: &mut [u8],
 ) -> Step
-    requires { ⌜ Ready (lent (now table) (now files) (now journal)) s c (length (now «data»)) × (count < 65535) ⌝ }
-    ensures { λ r. ⌜ (movedTo (r .session) (r .outcome) (lent (now (table .exit)) (now (files .exit)) (now (journal .exit)))
-        ≡ carriedOut (planned (situation format domain c (now («data» .entry)) s (lent (now (table .entry)) (now (files .entry)) (now (journal .entry)))))
-        (lent (now (table .entry)) (now (files .entry)) (now (journal .entry))))
+    requires { ⌜ Ready (lent (now table) (now files) (now journal)) s c (length (now «data»)) × (count < 65535) × (kept ≤ 1000) × (length (now made) ≡ 255) × (length (now waiting) ≡ 255) ⌝ }
+    ensures { λ r. ⌜ (movedTo (r .session) (r .outcome) (now (waiting .exit)) (lent (now (table .exit)) (now (files .exit)) (now (journal .exit)))
+        ≡ carriedOut (limits.limited kept counts s (planned (situation format domain c (now («data» .entry)) s (lent (now (table .entry)) (now (files .entry)) (now (journal .entry))))))
+        (now (waiting .entry)) (lent (now (table .entry)) (now (files .entry)) (now (journal .entry))))
         × (r .count ≡ count + 1) ⌝ }
 {
-    let d = decide(format, domain, c, data, s, table, files, journal);
-    carry_out(d, data, count, table, files, journal)
+    let d = decide(format, domain, c, data, s, table, files, journal, made);
+    carry_out(
+        limited(d, s, kept, counts),
+        data,
+        made,
+        count,
+        waiting,
+        table,
+        files,
+        journal,
+    )
 }

@@ -1,7 +1,7 @@
 -- `reader::next_reading` meets its contract: a walk of its MIR, by hand. A reader at the front of the script is moved on to the place, and asked for the command there. All that the proof knows of `at_front`, `moved_on` and `reading_of` is that each meets its contract.
 -- The machine value that a call returns is stored and passed on as it is. In a local of a body MIR erases the lifetime of a reader's type, so the value is shown to have the type at `erased`: what a reader owns does not say the lifetime's name.
 -- Assumes nothing.
-use mathlib.Core.Path.{_≡_, refl, sym, ap, _∙_}
+use mathlib.Core.Path.{_≡_, refl, _∙_}
 use Prim.Native.Nat.{ℕ, _<_, _^_}
 use mathlib.Core.List.{List, [], _∷_}
 use lib.ListN.{length}

@@ -6,6 +6,8 @@ use lib.ListN.{length}
 use borrow.Author.Needs.{needs}
 use borrow.Author.Tests.{not-true, not-false}
 use Rattle.card.specs.Row.{lent}
+use Rattle.card.proofs.Promises.{few-entries}
+use Rattle.journal.proofs.Parts.{card-table}
 use Rattle.session.specs.declared.Session.{Session}
 use Rattle.command.specs.declared.Outcome.the-variants.{Well}
 use Rattle.command.specs.Outcomes.{goesOn}
@@ -16,26 +18,34 @@ use Rattle.compact.proofs.run.run.Statement.{statement}
 use Rattle.compact.proofs.run.run.Tie as tie
 
 abbrev Inv-loop : tie.InvT-loop
-Inv-loop script application domain table₀ files₀ journal₀ step₀ at₀ table files journal step at =
-    (length table ≡ length table₀)
+Inv-loop script application domain waiting₀ table₀ files₀ journal₀ step₀ made₀ at₀ waiting table files journal step made at =
+    (length waiting ≡ length waiting₀)
+    × (length table ≡ length table₀)
     × (length files ≡ length files₀)
     × (length journal ≡ length journal₀)
-    × Going script application domain (lent table₀ files₀ journal₀) (lent table files journal) step at
+    × (length made ≡ 255)
+    × Going script application domain (lent table₀ files₀ journal₀) waiting (lent table files journal) step at
 
 abbrev μ-loop : tie.MeasureT-loop
-μ-loop script application domain table₀ files₀ journal₀ step₀ at₀ table files journal step at = length script - at
+μ-loop script application domain waiting₀ table₀ files₀ journal₀ step₀ made₀ at₀ waiting table files journal step made at = length script - at
 
 start-requires : tie.Need-start-requires Inv-loop μ-loop
-start-requires c κs = search needs
+start-requires c κs =
+    let s = c .before .before .before .before .before in
+    let here = s .pre .2 in
+    let few = few-entries (s .args .table .now) (s .args .files .now) (card-table (lent (s .args .table .now) (s .args .files .now) (s .args .journal .now)) (s .pre .0)) in
+    omega arith
 
 loop-holds : tie.Need-loop-holds Inv-loop μ-loop
 unfolding started
 loop-holds c =
-    let s = c .before .before .before .before .before in (
+    let s = c .before .before .before .before .before .before in (
       refl,
       refl,
       refl,
-      begins (s .args .script .now) (s .args .application) (s .args .domain) (lent (s .args .table .now) (s .args .files .now) (s .args .journal .now)) _
+      refl,
+      refl,
+      begins (s .args .script .now) (s .args .application) (s .args .domain) (lent (s .args .table .now) (s .args .files .now) (s .args .journal .now)) _ (s .pre .5) _
           (ap (λ (k : Session). unfold started in record { session = k; outcome = Well 0x9000; count = 0 }) (c .start .ensures))
           (s .pre .0) (s .pre .1) (s .pre .2) (s .pre .3),
     )
@@ -43,12 +53,17 @@ loop-holds c =
 next-reading-requires : tie.Need-next-reading-requires Inv-loop μ-loop
 next-reading-requires c κs = omega arith
 
-step-at-requires : tie.Need-step-at-requires Inv-loop μ-loop
-step-at-requires c κs =
-    let g = c .before .before .before .before .before .loop .inv .3 in
+slice-aggregate-step-read : tie.Need-slice-aggregate-step-read Inv-loop μ-loop
+slice-aggregate-step-read c = search needs
+
+step-read-requires : tie.Need-step-read-requires Inv-loop μ-loop
+step-read-requires c κs =
+    let fits = c .before .before .before .before .before .next-reading .ensures .1 in
+    let l = c .before .before .before .before .before .before .before .loop .inv in
+    let g = l .5 in
     let few = g .counted in
-    let short = c .before .before .before .before .before .before .before .before .before .before .before .pre .4 in
-    (omega arith, g .holds .sound, g .holds .good, omega arith)
+    let short = c .before .before .before .before .before .before .before .before .before .before .before .before .before .before .pre .4 in
+    (fits .inside, fits .p1, fits .p2, fits .p3, fits .brief, g .holds .sound, g .holds .good, omega arith, l .4, g .holds .waiting)
 
 word-of-requires : tie.Need-word-of-requires Inv-loop μ-loop
 word-of-requires c κs = search needs
@@ -65,45 +80,49 @@ same-length-2 c = omega arith
 same-length-3 : tie.Need-same-length-3 Inv-loop μ-loop
 same-length-3 c = omega arith
 
+same-length-4 : tie.Need-same-length-4 Inv-loop μ-loop
+same-length-4 c = omega arith
+
 returns : tie.Need-returns Inv-loop μ-loop
 returns c =
-    let s = c .before .before .before .before .before .before .before .before .before .before .before .before .before .before .before .before .before .before .before .before .before in
-    let l = c .before .before .before .before .before .before .before .before .before .before .before .before .before .before .before .loop in
-    stops (s .args .script .now) (s .args .application) (s .args .domain) _ _ (l .step) (l .at) (l .inv .3) (c .before .before .before .before .before .before .before .before .before .step-at .result) _ (omega arith)
-    (c .before .before .before .before .before .before .before .before .before .step-at .ensures)
+    let s = c .before .before .before .before .before .before .before .before .before .before .before .before .before .before .before .before .before .before .before .before .before .before .before .before .before .before .before in
+    let l = c .before .before .before .before .before .before .before .before .before .before .before .before .before .before .before .before .before .before .before .before .loop in
+    let r = c .before .before .before .before .before .before .before .before .before .before .before .before .before .before .before .before .before .before .next-reading in
+    let done = c .before .before .before .before .before .before .before .before .before .before .before .before .step-read in
+    stops (s .args .script .now) (s .args .application) (s .args .domain) _ _ _ (l .step) (l .at) (l .inv .5) (done .result) _ _ (r .result) (c .before .before .before .before .before .before .before .before .before .before .before .before .before .before .before .before .before .before .before .loop-test .taken) (done .ensures) (r .ensures .0)
     (sym (ap goesOn (c .before .before .word-of .ensures)) ∙ sym (c .before .goes-on .ensures) ∙ not-true (c .before .goes-on .result) (c .if1 .taken))
 
 add-at : tie.Need-add-at Inv-loop μ-loop
 unfolding placeAfter
 add-at c =
-    let inside = c .before .before .before .before .before .before .before .before .before .before .before .before .before .before .next-reading .ensures .1 .inside in
-    let short = c .before .before .before .before .before .before .before .before .before .before .before .before .before .before .before .before .before .before .before .before .before .before .pre .4 in
+    let inside = c .before .before .before .before .before .before .before .before .before .before .before .before .before .before .before .before .before .before .before .next-reading .ensures .1 .inside in
+    let short = c .before .before .before .before .before .before .before .before .before .before .before .before .before .before .before .before .before .before .before .before .before .before .before .before .before .before .before .before .pre .4 in
     omega arith
 
 loop-less : tie.Need-loop-less Inv-loop μ-loop
 unfolding placeAfter
 loop-less c =
-    let fits = c .before .before .before .before .before .before .before .before .before .before .before .before .before .before .next-reading .ensures .1 in
+    let fits = c .before .before .before .before .before .before .before .before .before .before .before .before .before .before .before .before .before .before .before .next-reading .ensures .1 in
     let inside = fits .inside in
     let further = fits .further in
     omega arith
 
 loop-again : tie.Need-loop-again Inv-loop μ-loop
 loop-again c =
-    let s = c .before .before .before .before .before .before .before .before .before .before .before .before .before .before .before .before .before .before .before .before .before .before in
-    let l = c .before .before .before .before .before .before .before .before .before .before .before .before .before .before .before .before .loop in
-    let r = c .before .before .before .before .before .before .before .before .before .before .before .before .before .before .next-reading in
+    let s = c .before .before .before .before .before .before .before .before .before .before .before .before .before .before .before .before .before .before .before .before .before .before .before .before .before .before .before .before in
+    let l = c .before .before .before .before .before .before .before .before .before .before .before .before .before .before .before .before .before .before .before .before .before .loop in
+    let r = c .before .before .before .before .before .before .before .before .before .before .before .before .before .before .before .before .before .before .before .next-reading in
+    let done = c .before .before .before .before .before .before .before .before .before .before .before .before .before .step-read in
     let script = s .args .script .now in (
       omega arith,
+      omega (arith, c .before .before .before .before .before .before .before .before .before .table .given),
+      omega (arith, c .before .before .before .before .before .before .before .files .given),
       omega arith,
       omega arith,
-      goes script (s .args .application) (s .args .domain) _ _ (l .step) (l .at) (l .inv .3) (λ i. c .before .before .before .before .before .before .before .before .before .before .before .before .before .before .before .before .before .before .before .before .before .shared-slice-known .given i .fits)
-          (c .before .before .before .before .before .before .before .before .before .before .step-at .result) _ (r .result) (omega arith) (c .before .before .before .before .before .before .before .before .before .before .step-at .ensures) (r .ensures .0) (r .ensures .1)
+      goes script (s .args .application) (s .args .domain) _ _ _ (l .step) (l .at) (l .inv .5) (λ i. c .before .before .before .before .before .before .before .before .before .before .before .before .before .before .before .before .before .before .before .before .before .before .before .before .before .before .before .shared-slice-known .given i .fits)
+          (done .result) _ _ (r .result) (c .before .before .before .before .before .before .before .before .before .before .before .before .before .before .before .before .before .before .before .before .loop-test .taken) (done .ensures) (r .ensures .0) (r .ensures .1)
           (sym (ap goesOn (c .before .before .before .word-of .ensures)) ∙ sym (c .before .before .goes-on .ensures) ∙ not-false (c .before .before .goes-on .result) (c .before .if1 .left)),
     )
-
-same-length-4 : tie.Need-same-length-4 Inv-loop μ-loop
-same-length-4 c = omega arith
 
 same-length-5 : tie.Need-same-length-5 Inv-loop μ-loop
 same-length-5 c = omega arith
@@ -111,11 +130,17 @@ same-length-5 c = omega arith
 same-length-6 : tie.Need-same-length-6 Inv-loop μ-loop
 same-length-6 c = omega arith
 
+same-length-7 : tie.Need-same-length-7 Inv-loop μ-loop
+same-length-7 c = omega arith
+
+same-length-8 : tie.Need-same-length-8 Inv-loop μ-loop
+same-length-8 c = omega arith
+
 returns-2 : tie.Need-returns-2 Inv-loop μ-loop
 returns-2 c =
-    let s = c .before .before .before .before .before .before .before in
+    let s = c .before .before .before .before .before .before .before .before in
     let l = c .before .loop in
-    ends (s .args .script .now) (s .args .application) (s .args .domain) _ _ (l .step) (l .at) (l .inv .3) (omega arith)
+    ends (s .args .script .now) (s .args .application) (s .args .domain) _ _ _ (l .step) (l .at) (l .inv .5) (omega arith)
 
 pub run-spec : {M : Type 1} → statement M
 run-spec =
@@ -126,17 +151,20 @@ run-spec =
     start-requires
     loop-holds
     next-reading-requires
-    step-at-requires
+    slice-aggregate-step-read
+    step-read-requires
     word-of-requires
     goes-on-requires
     same-length
     same-length-2
     same-length-3
+    same-length-4
     returns
     add-at
     loop-less
     loop-again
-    same-length-4
     same-length-5
     same-length-6
+    same-length-7
+    same-length-8
     returns-2)

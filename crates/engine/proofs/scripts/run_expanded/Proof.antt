@@ -4,8 +4,8 @@ use native.Mathlib.Omega.{arith}
 use lib.ListN.{length}
 use borrow.Author.Needs.{needs}
 use Rattle.card.specs.Row.{Card, lent}
-use Rattle.expanded.specs.declared.template.Template.{Template}
-use Rattle.expanded.specs.Templates.{TemplateFits}
+use Rattle.tlv.specs.declared.template.Template.{Template}
+use Rattle.tlv.specs.Templates.{TemplateFits}
 use Rattle.engine.specs.declared.Answer.{Answer}
 use Rattle.engine.specs.Numbers.{Arguments}
 use Rattle.engine.specs.Calls.{gives}

@@ -6,6 +6,7 @@ use lib.ListN.{length-take}
 use lib.Seq.{length-take-le}
 use borrow.Author.Needs.{needs}
 use Rattle.card.specs.Row.{Card, lent}
+use Rattle.session.specs.Session.{startWaiting}
 use Rattle.engine.specs.Numbers.{Arguments}
 use Rattle.engine.proofs.Ended.{expanded-small, value-gives}
 use Rattle.engine.proofs.scripts.run_value.Statement.{statement}
@@ -27,7 +28,11 @@ argumentsOf s =
 slice-aggregate-run : tie.Need-slice-aggregate-run
 slice-aggregate-run c = search needs
 
+slice-aggregate-run-2 : tie.Need-slice-aggregate-run-2
+slice-aggregate-run-2 c = search needs
+
 run-requires : tie.Need-run-requires
+unfolding startWaiting
 run-requires c κs = search needs
 
 add-gathered : tie.Need-add-gathered
@@ -38,13 +43,13 @@ array-share-prefix-rapdus c = search needs
 
 slice-aggregate-put-answer : tie.Need-slice-aggregate-put-answer
 slice-aggregate-put-answer c =
-    let r = c .before .before .before .before .before .before .before .before .before .before .before .run in
+    let r = c .before .before .before .before .before .before .before .before .before .before .before .before .run in
     sym (length-take-le (r .result .kept + r .result .last) _ (omega (arith, r .ensures .1)))
 
 put-answer-requires : tie.Need-put-answer-requires
 put-answer-requires c κs =
-    let r = c .before .before .before .before .before .before .before .before .before .before .before .run in (
-      omega (arith, c .before .before .before .before .before .before .before .before .before .before .before .before .before .before .before .before .before .before .before .before .before .pre .7),
+    let r = c .before .before .before .before .before .before .before .before .before .before .before .before .run in (
+      omega (arith, c .before .before .before .before .before .before .before .before .before .before .before .before .before .before .before .before .before .before .before .before .before .before .before .pre .7),
       rw length-take (omega (arith, r .ensures .1)),
       r .ensures .2,
     )
@@ -63,10 +68,10 @@ same-length-4 c = search needs
 
 returns : tie.Need-returns
 returns c =
-    let s = c .before .before .before .before .before .before .before .before .before .before .before .before .before .before .before .before .before .before .before .before .before .before .before .before in
-    let r = c .before .before .before .before .before .before .before .before .before .before .before .before .before .before .run in
+    let s = c .before .before .before .before .before .before .before .before .before .before .before .before .before .before .before .before .before .before .before .before .before .before .before .before .before .before in
+    let r = c .before .before .before .before .before .before .before .before .before .before .before .before .before .before .before .run in
     let p = c .before .before .put-answer .ensures in (
-      value-gives (s .args .definite) (s .args .at) (s .args .end) (argumentsOf s) (cardOf s) (r .result) _ _ _ _ (r .ensures .0) (p .0) (p .1),
+      value-gives (s .args .definite) (s .args .at) (s .args .end) (argumentsOf s) (cardOf s) (r .result) _ _ _ _ _ (r .ensures .0) (p .0) (p .1),
       expanded-small (s .args .definite) (r .result .step .count) _ (rw length-take (omega (arith, r .ensures .1))) (r .ensures .2) _ (p .1),
     )
 
@@ -75,6 +80,7 @@ run-value-spec =
     tie.close
     (tie.spec
     slice-aggregate-run
+    slice-aggregate-run-2
     run-requires
     add-gathered
     array-share-prefix-rapdus

@@ -1,7 +1,8 @@
 -- `expanded::answer::put_count` meets its contract: each way writes the bytes of the count. Assumes nothing.
 use mathlib.Core.Path.{refl}
 use Rattle.octets.specs.Bytes.{bytes2}
-use Rattle.expanded.proofs.Written.{count-one, count-two, named}
+use Rattle.tlv.proofs.Written.{named}
+use Rattle.expanded.proofs.Written.{count-one, count-two}
 use borrow.Author.Needs.{needs}
 use Rattle.expanded.proofs.answer.put_count.Statement.{statement}
 use Rattle.expanded.proofs.answer.put_count.Tie as tie

@@ -3,7 +3,8 @@ use native.Mathlib.Omega.{arith}
 use Prim.Native.Nat.{_+_}
 use lib.ListN.{length}
 use borrow.Author.Needs.{needs}
-use Rattle.expanded.proofs.Written.{length-few, definite-written}
+use Rattle.tlv.proofs.Written.{length-few}
+use Rattle.expanded.proofs.Written.{definite-written}
 use Rattle.expanded.proofs.answer.put_definite.Statement.{statement}
 use Rattle.expanded.proofs.answer.put_definite.Tie as tie
 

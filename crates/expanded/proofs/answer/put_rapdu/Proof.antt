@@ -4,10 +4,12 @@ use Prim.Native.Nat.{ℕ, _+_}
 use native.Mathlib.Omega.{arith}
 use borrow.Author.Needs.{needs}
 use Rattle.octets.specs.Bytes.{overwrite}
+use Rattle.tlv.proofs.Written.{length-some}
 use Rattle.command.specs.Outcomes.{dataOf, dataCount}
 use Rattle.command.proofs.Outgoing.{data-length, data-few}
-use Rattle.expanded.specs.Expanded.{rapdu, rapduSize}
-use Rattle.expanded.proofs.Written.{length-some, rapdu-written}
+use Rattle.step.specs.Limits.{rapduSize}
+use Rattle.expanded.specs.Expanded.{rapdu}
+use Rattle.expanded.proofs.Written.{rapdu-written}
 use Rattle.expanded.proofs.answer.put_rapdu.Statement.{statement}
 use Rattle.expanded.proofs.answer.put_rapdu.Tie as tie
 

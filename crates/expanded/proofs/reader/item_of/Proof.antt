@@ -18,7 +18,7 @@ use ghost.Atoms.{Atoms, sem}
 use contract.Lifetimes.{Lfts}
 use contract.Monad.{Fun, fact}
 use contract.Running.{givenOf, tables, tablesOf}
-use types.Kit.{Given, ‵, raw, _⊛_, given, ⋆, some, later, _$_, _∵_, !, qed, by, move, drop, use1, use2, split, join, learn, pick, fsplit, fjoin, suffices, frame, await, done}
+use types.Kit.{Given, ‵, raw, _⊛_, given, ⋆, some, later, _$_, _∵_, !, qed, by, move, drop, use1, use2, split, learn, pick, fsplit, fjoin, suffices, frame, await, done}
 use types.Part.{whole, sub, look-in}
 use types.Run.{look, init, forget, stop, fld, from, load, of-opd, and-then, no-more, assigns, land, returns, enter, alloc1, alloc0, params1, pass1, pass0, free1, free0}
 use sound.WpLaws.{FmC, fmOf, WpFn-mono}
@@ -43,17 +43,17 @@ use denote.Triple.Table.{entered, cited}
 use denote.Triple.Walked.{says, needs, Stays, stay-none, walkOf, goes-none, Walks, ends-at, walked, walk-meets}
 use denote.Exit.{yes}
 use denote.Triple.Clauses.{ensured, lasts}
-use Rattle.expanded.specs.Templates.{itemAt, ItemFits}
+use Rattle.tlv.specs.Templates.{itemAt, ItemFits}
 use Rattle.command.specs.declared.reader.Reader.{Reader}
-use Rattle.expanded.specs.declared.template.Item.{Item}
+use Rattle.tlv.specs.declared.template.Item.{Item}
 use Rattle.command.proofs.reader.Reader as T
 use Rattle.command.proofs.reader.Reader.Laws as T′
-use Rattle.expanded.proofs.template.Item as S
-use Rattle.expanded.proofs.template.Item.Laws as S′
-use Rattle.expanded.proofs.template.item_at as at
-use Rattle.expanded.proofs.template.item_at.Symbol as at-def
-use Rattle.expanded.proofs.template.item_at.Symbol.{name as #item-at}
-use Rattle.expanded.proofs.template.item_at.Met as at-thm
+use Rattle.tlv.proofs.template.Item as S
+use Rattle.tlv.proofs.template.Item.Laws as S′
+use Rattle.tlv.proofs.template.item_at as at
+use Rattle.tlv.proofs.template.item_at.Symbol as at-def
+use Rattle.tlv.proofs.template.item_at.Symbol.{name as #item-at}
+use Rattle.tlv.proofs.template.item_at.Met as at-thm
 use Rattle.expanded.proofs.reader.item_of.Key.{name as #item-of}
 use Rattle.expanded.proofs.reader.item_of as item
 use Rattle.expanded.proofs.reader.item_of.Statement as stated
@@ -170,4 +170,4 @@ item-of-spec 𝓤 H 𝓜 𝓖 𝓡 =
     entered 𝓤 H (tripleOf 𝓤 H (𝓖 .A) item.signature (item.spec 𝓤 H (𝓖 .A) (𝓜 .mem) (𝓡 .run)))
     (tables 𝓤 H 𝓜 𝓡 code.env .C) (tables 𝓤 H 𝓜 𝓡 code.env .Λ) #item-of code.function (code.unfolded 𝓤 H 𝓜 𝓡)
     (item-meets 𝓤 H (𝓖 .A) (givenOf 𝓤 H 𝓜 𝓖) (𝓜 .mem) (𝓡 .run) (tablesOf 𝓤 H 𝓜 (tables 𝓤 H 𝓜 𝓡 code.env))
-    (cited 𝓤 H (ItemAt 𝓤 H (𝓖 .A) (𝓜 .mem) (𝓡 .run)) 𝓜 𝓡 code.env #item-at at-def.routine code.calls-expanded·template·item-at (at-thm.met 𝓤 H 𝓜 𝓖 𝓡)))
+    (cited 𝓤 H (ItemAt 𝓤 H (𝓖 .A) (𝓜 .mem) (𝓡 .run)) 𝓜 𝓡 code.env #item-at at-def.routine code.calls-tlv·template·item-at (at-thm.met 𝓤 H 𝓜 𝓖 𝓡)))

@@ -1,7 +1,7 @@
 -- `reader::next_item` meets its contract: a walk of its MIR, by hand. A reader at the front of the script is moved on to the place, and asked for what stands there. All that the proof knows of `at_front`, `moved_on` and `item_of` is that each meets its contract.
 -- The machine value that a call returns is stored and passed on as it is. In a local of a body MIR erases the lifetime of a reader's type, so the value is shown to have the type at `erased`: what a reader owns does not say the lifetime's name.
 -- Assumes nothing.
-use mathlib.Core.Path.{_≡_, refl, sym, ap, _∙_}
+use mathlib.Core.Path.{_≡_, refl, _∙_}
 use Prim.Native.Nat.{ℕ, _≤_, _<_, _^_}
 use mathlib.Core.List.{List, [], _∷_}
 use lib.ListN.{length}
@@ -38,13 +38,13 @@ use denote.Triple.Table.{entered, cited}
 use denote.Triple.Walked.{says, needs, Stays, stay-none, stay-none-slice, walkOf, goes-none, goes-none-slice, Walks, ends-at, walked, walk-meets}
 use denote.Exit.{yes}
 use denote.Triple.Clauses.{ensured, lasts}
-use Rattle.expanded.specs.Templates.{itemAt, ItemFits}
+use Rattle.tlv.specs.Templates.{itemAt, ItemFits}
 use Rattle.command.specs.declared.reader.Reader.{Reader}
-use Rattle.expanded.specs.declared.template.Item.{Item}
+use Rattle.tlv.specs.declared.template.Item.{Item}
 use Rattle.command.proofs.reader.Reader as T
 use Rattle.command.proofs.reader.Reader.Laws as T′
-use Rattle.expanded.proofs.template.Item as S
-use Rattle.expanded.proofs.template.Item.Laws as S′
+use Rattle.tlv.proofs.template.Item as S
+use Rattle.tlv.proofs.template.Item.Laws as S′
 use Rattle.command.proofs.reader.at_front as front
 use Rattle.command.proofs.reader.at_front.Symbol as front-def
 use Rattle.command.proofs.reader.at_front.Symbol.{name as #at-front}

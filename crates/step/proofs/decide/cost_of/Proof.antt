@@ -1,8 +1,8 @@
 -- `step::decide::cost_of` meets its contract: the cost of each change. Assumes nothing.
 use native.Mathlib.Omega.{arith}
 use borrow.Author.Needs.{needs}
-use Rattle.step.specs.Decisions.{Brief}
-use Rattle.step.proofs.Acts.{costOf, known-cost, known-brief}
+use Rattle.plan.specs.Decisions.{Brief}
+use Rattle.plan.proofs.Acts.{costOf, known-cost, known-brief}
 use Rattle.step.proofs.decide.cost_of.Statement.{statement}
 use Rattle.step.proofs.decide.cost_of.Tie as tie
 

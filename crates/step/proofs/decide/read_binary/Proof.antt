@@ -1,66 +1,60 @@
--- `step::decide::read_binary` meets its contract: each arm is the one that the definition picks. Assumes nothing.
-use mathlib.Core.Path.{_∙_}
+-- `step::decide::read_binary` meets its contract: the word of the first check that fails, or what READ BINARY does. Assumes nothing.
+use mathlib.Core.Path.{refl, sym}
 use native.Mathlib.Omega.{arith}
-use borrow.Author.Tests.{eq-eqb, ne-eqb, le-leb, lt-leb}
-use Rattle.octets.specs.Choice.{pick}
-use Rattle.command.specs.Plans.{offsetOf, readBinary}
 use borrow.Author.Needs.{needs}
+use lib.ListN.{length}
+use Rattle.octets.specs.Choice.{pick}
+use Rattle.command.specs.Instructions as ins
+use Rattle.command.specs.Files.{fileAt}
+use Rattle.command.specs.Plans.{doneBy}
+use Rattle.command.specs.Commands.{situation}
+use Rattle.plan.proofs.Inside.{none-fits}
+use Rattle.step.proofs.Passed.{to-read, file-here, records-long, check-failed, check-passed, check-plainly}
 use Rattle.step.proofs.decide.read_binary.Statement.{statement}
 use Rattle.step.proofs.decide.read_binary.Tie as tie
 
-mul-offset : tie.Need-mul-offset
-mul-offset c = search needs
+cast-row-at : tie.Need-cast-row-at
+cast-row-at c = search needs
 
-add-offset : tie.Need-add-offset
-add-offset c = search needs
+row-at-requires : tie.Need-row-at-requires
+row-at-requires c κs = let h = file-here (c .before .before .before .before .pre .0) in omega arith
 
-add-place : tie.Need-add-place
-add-place c = search needs
+checked-requires : tie.Need-checked-requires
+checked-requires c κs =
+    let p = c .before .before .before .before .before .pre in
+    (p .1, records-long (p .0) (c .row-at .ensures .0), p .0 .p1, p .0 .p2, omega (arith, p .0 .brief))
 
-sub-left : tie.Need-sub-left
-unfolding offsetOf
-sub-left c = omega arith
-
-most-read-requires : tie.Need-most-read-requires
-most-read-requires c κs = search needs
-
-least-requires : tie.Need-least-requires
-least-requires c κs = search needs
-
-handed-requires : tie.Need-handed-requires
-handed-requires c κs = search needs
+failed-requires : tie.Need-failed-requires
+failed-requires c κs = search needs
 
 returns : tie.Need-returns
-unfolding readBinary offsetOf pick
-returns c = (λ «data» f e. c .handed .ensures .0 «data» ∙ rw (e, eq-eqb _ _ (c .before .before .before .if1 .taken), c .before .least .ensures, c .before .before .most-read .ensures), c .handed .ensures .1)
+returns c = λ bytes.
+    let a = c .before .before .before .before .before .before .before .before .args in
+    check-failed (a .domain) (a .c) (a .«data» .now) (a .s) (a .table .now) (a .files .now) (c .before .before .before .row-at .ensures .0) (c .before .before .checked .ensures) (c .before .if1 .taken) (a .format) bytes (c .failed .ensures .0 (a .«data» .now) bytes) (c .failed .ensures .1)
 
-handed-requires-2 : tie.Need-handed-requires-2
-handed-requires-2 c κs = search needs
+read-binary-requires : tie.Need-read-binary-requires
+read-binary-requires c κs =
+    let a = c .before .before .before .before .before .before .before .args in
+    let p = c .before .before .before .before .before .before .before .pre in
+    (c .before .before .row-at .ensures .1, p .0 .p1, p .0 .p2, to-read (check-passed (a .domain) (a .c) (a .«data» .now) (a .s) (a .table .now) (a .files .now) (c .before .before .row-at .ensures .0) (c .before .checked .ensures) (c .if1 .left) (p .0) (c .before .before .row-at .ensures .1)) (p .1))
 
 returns-2 : tie.Need-returns-2
-unfolding readBinary offsetOf pick
-returns-2 c = (λ «data» f e. c .handed2 .ensures .0 «data» ∙ rw (e, ne-eqb _ _ (c .before .before .before .if1 .left), le-leb _ _ (c .before .if2 .taken)), c .handed2 .ensures .1)
-
-handed-requires-3 : tie.Need-handed-requires-3
-handed-requires-3 c κs = search needs
-
-returns-3 : tie.Need-returns-3
-unfolding readBinary offsetOf pick
-returns-3 c = (λ «data» f e. c .handed3 .ensures .0 «data» ∙ rw (e, ne-eqb _ _ (c .before .before .before .if1 .left), lt-leb _ _ (c .before .if2 .left)), c .handed3 .ensures .1)
+unfolding situation fileAt doneBy pick
+returns-2 c = λ bytes.
+    let s = c .before .before .before .before .before .before .before .before in
+    let a = s .args in
+    check-plainly (a .domain) (a .c) (a .«data» .now) (a .s) (a .table .now) (a .files .now) (c .before .before .before .row-at .ensures .0) (c .before .before .checked .ensures) (c .before .if1 .left) ins.readBinary (s .pre .1) (a .format) bytes refl
+    (λ journal. c .read-binary .ensures .0 (a .«data» .now) bytes _ (sym (c .before .before .before .row-at .ensures .0)))
+    (none-fits (length (a .table .now)) (length (a .files .now)) (length (a .«data» .now)) (c .read-binary .ensures .1))
 
 pub read-binary-spec : {M : Type 1} → statement M
 read-binary-spec =
     tie.close
     (tie.spec
-    mul-offset
-    add-offset
-    add-place
-    sub-left
-    most-read-requires
-    least-requires
-    handed-requires
+    cast-row-at
+    row-at-requires
+    checked-requires
+    failed-requires
     returns
-    handed-requires-2
-    returns-2
-    handed-requires-3
-    returns-3)
+    read-binary-requires
+    returns-2)

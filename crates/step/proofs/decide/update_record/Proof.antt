@@ -1,59 +1,62 @@
--- `step::decide::update_record` meets its contract: a cyclic file gets a new record, a linear one its named record anew. Assumes nothing.
-use mathlib.Core.Path.{_∙_}
-use borrow.Author.Tests.{eq-eqb, ne-eqb}
-use Rattle.octets.specs.Choice.{pick}
-use Rattle.command.specs.Files.{writeIn, newRecord}
-use Rattle.command.specs.Plans.{atNamed, updateRecord}
-use Rattle.step.specs.Decisions.{recordWrites, writesOf, newestOf, updateChange}
+-- `step::decide::update_record` meets its contract: the word of the first check that fails, or what UPDATE RECORD does. Assumes nothing.
+use mathlib.Core.Path.{refl, sym}
+use native.Mathlib.Omega.{arith}
 use borrow.Author.Needs.{needs}
+use lib.ListN.{length}
+use Rattle.octets.specs.Choice.{pick}
+use Rattle.command.specs.Instructions as ins
+use Rattle.command.specs.Files.{fileAt}
+use Rattle.command.specs.Plans.{doneBy}
+use Rattle.command.specs.Commands.{situation}
+use Rattle.step.proofs.Passed.{of-records, has-named, update-fits, file-here, state-inside, records-long, check-failed, check-passed, check-plainly}
 use Rattle.step.proofs.decide.update_record.Statement.{statement}
 use Rattle.step.proofs.decide.update_record.Tie as tie
 
-at-record-requires : tie.Need-at-record-requires
-at-record-requires c κs = search needs
+cast-row-at : tie.Need-cast-row-at
+cast-row-at c = search needs
 
-new-record-requires : tie.Need-new-record-requires
-new-record-requires c κs = search needs
+row-at-requires : tie.Need-row-at-requires
+row-at-requires c κs = let h = file-here (c .before .before .before .before .pre .0) in omega arith
 
-done-requires : tie.Need-done-requires
-done-requires c κs = search needs
+checked-requires : tie.Need-checked-requires
+checked-requires c κs =
+    let p = c .before .before .before .before .before .pre in
+    (p .1, records-long (p .0) (c .row-at .ensures .0), p .0 .p1, p .0 .p2, omega (arith, p .0 .brief))
+
+failed-requires : tie.Need-failed-requires
+failed-requires c κs = search needs
 
 returns : tie.Need-returns
-unfolding updateRecord newRecord writeIn recordWrites writesOf newestOf updateChange pick
-returns c = (λ «data» f e g. c .done .ensures .0 «data» ∙ rw (e, g, eq-eqb _ _ (c .before .before .before .if1 .taken), c .before .before .at-record .ensures, c .before .new-record .ensures), c .done .ensures .1 ∙ rw (eq-eqb _ _ (c .before .before .before .if1 .taken), c .before .new-record .ensures))
+returns c = λ format bytes.
+    let a = c .before .before .before .before .before .before .before .before .args in
+    check-failed (a .domain) (a .c) (a .«data» .now) (a .s) (a .table .now) (a .files .now) (c .before .before .before .row-at .ensures .0) (c .before .before .checked .ensures) (c .before .if1 .taken) format bytes (c .failed .ensures .0 (a .«data» .now) bytes) (c .failed .ensures .1)
 
-record-of-requires : tie.Need-record-of-requires
-record-of-requires c κs = search needs
-
-record-offset-requires : tie.Need-record-offset-requires
-record-offset-requires c κs =
-    let h = c .before .before .before .pre .3 (ne-eqb _ _ (c .before .if1 .left)) in
-    (c .before .before .before .pre .1, rw (c .record-of .ensures) (h .0), rw (c .record-of .ensures) (h .1), c .before .before .before .pre .0)
-
-number-after-requires : tie.Need-number-after-requires
-number-after-requires c κs = search needs
-
-at-record-requires-2 : tie.Need-at-record-requires-2
-at-record-requires-2 c κs = search needs
-
-done-requires-2 : tie.Need-done-requires-2
-done-requires-2 c κs = search needs
+update-record-requires : tie.Need-update-record-requires
+update-record-requires c κs =
+    let a = c .before .before .before .before .before .before .before .args in
+    let p = c .before .before .before .before .before .before .before .pre in
+    let known = check-passed (a .domain) (a .c) (a .«data» .now) (a .s) (a .table .now) (a .files .now) (c .before .before .row-at .ensures .0) (c .before .checked .ensures) (c .if1 .left) (p .0) (c .before .before .row-at .ensures .1) in
+    let has = of-records known (rw (p .1)) in
+    (has .narrow, has .least, has .counted, omega (arith, has .most), λ z. has-named known (rw (p .1)) (rw (p .1) z))
 
 returns-2 : tie.Need-returns-2
-unfolding updateRecord atNamed writeIn writesOf updateChange pick
-returns-2 c = (λ «data» f e g. c .done2 .ensures .0 «data» ∙ rw (e, ne-eqb _ _ (c .before .before .before .before .before .if1 .left), c .before .at-record2 .ensures, c .before .before .number-after .ensures, c .before .before .before .record-offset .ensures .0, c .before .before .before .before .record-of .ensures), c .done2 .ensures .1 ∙ rw (ne-eqb _ _ (c .before .before .before .before .before .if1 .left), c .before .before .before .record-offset .ensures .0, c .before .before .before .before .record-of .ensures))
+unfolding situation fileAt doneBy pick
+returns-2 c = λ format bytes.
+    let s = c .before .before .before .before .before .before .before .before in
+    let a = s .args in
+    let h = state-inside (s .pre .0) in
+    check-plainly (a .domain) (a .c) (a .«data» .now) (a .s) (a .table .now) (a .files .now) (c .before .before .before .row-at .ensures .0) (c .before .before .checked .ensures) (c .before .if1 .left) ins.updateRecord (s .pre .1) format bytes refl
+    (λ journal. c .update-record .ensures .0 (a .«data» .now) bytes _ (sym (c .before .before .before .row-at .ensures .0)) refl)
+    (rw (c .update-record .ensures .1) (update-fits (check-passed (a .domain) (a .c) (a .«data» .now) (a .s) (a .table .now) (a .files .now) (c .before .before .before .row-at .ensures .0) (c .before .before .checked .ensures) (c .before .if1 .left) (s .pre .0) (c .before .before .before .row-at .ensures .1)) (s .pre .1) (length (a .table .now)) (omega arith)))
 
 pub update-record-spec : {M : Type 1} → statement M
 update-record-spec =
     tie.close
     (tie.spec
-    at-record-requires
-    new-record-requires
-    done-requires
+    cast-row-at
+    row-at-requires
+    checked-requires
+    failed-requires
     returns
-    record-of-requires
-    record-offset-requires
-    number-after-requires
-    at-record-requires-2
-    done-requires-2
+    update-record-requires
     returns-2)

@@ -1,0 +1,95 @@
+-- `compact::run::step_read` meets its contract: the command, with its data, is run, and no R-APDU counts. Assumes nothing.
+use mathlib.Core.Path.{_≡_, subst}
+use mathlib.Core.Bool.{false}
+use mathlib.Core.List.{List}
+use Prim.Native.Nat.{ℕ}
+use native.Mathlib.Omega.{arith}
+use lib.ListN.{length-take}
+use borrow.Author.Needs.{needs}
+use Rattle.octets.specs.Choice.{pick}
+use Rattle.octets.specs.Bytes.{part}
+use Rattle.octets.proofs.Writes.{part-lent}
+use Rattle.card.specs.Row.{Card, lent}
+use Rattle.command.specs.declared.Format.the-variants.{Compact}
+use Rattle.command.specs.declared.Reading.{Reading}
+use Rattle.command.specs.declared.Step.{Step}
+use Rattle.command.specs.Commands.{State, stateOf, situation, planned, carriedOut, stepped}
+use Rattle.step.specs.Limits.{limited}
+use Rattle.compact.specs.Compact.{placeAfter, stepRead}
+use Rattle.compact.proofs.run.step_read.Statement.{statement}
+use Rattle.compact.proofs.run.step_read.Tie as tie
+
+told : (script : List ℕ) (domain : ℕ) (reading : Reading) (before : Step) (waiting : List ℕ) (card : Card) {«data» : List ℕ} {st : State} → «data» ≡ part script (reading .from) (reading .count)
+    → st ≡ stepped (stateOf before waiting card) (carriedOut (limited 0 false (before .session) (planned (situation Compact domain (reading .command) «data» (before .session) card))) waiting card)
+    → st ≡ stepRead script domain reading (stateOf before waiting card)
+unfolding stepRead limited pick
+told script domain reading before waiting card {«data»} {st} hd e =
+    subst (λ (d : List ℕ). st ≡ stepped (stateOf before waiting card) (carriedOut (planned (situation Compact domain (reading .command) d (before .session) card)) waiting card)) hd e
+
+add-end : tie.Need-add-end
+unfolding placeAfter
+add-end c = let inside = c .before .before .before .before .before .before .before .pre .0 in omega arith
+
+sub-run-step : tie.Need-sub-run-step
+sub-run-step c = search needs
+
+part-run-step-start : tie.Need-part-run-step-start
+part-run-step-start c = search needs
+
+part-run-step-end : tie.Need-part-run-step-end
+unfolding placeAfter
+part-run-step-end c = let inside = c .before .before .before .before .before .before .before .before .pre .0 in omega arith
+
+run-step-requires : tie.Need-run-step-requires
+run-step-requires c κs =
+    let s = c .before .before .before .before .before .before .before .before .before .before .before .before .before .before in (
+      record {
+        sound = s .pre .5;
+        good = s .pre .6;
+        p1 = s .pre .1;
+        p2 = s .pre .2;
+        p3 = s .pre .3;
+        brief = rw (part-lent (s .args .script .now) (s .args .reading .from) (s .args .reading .count), length-take) (let b = s .pre .4 in omega arith);
+      },
+      s .pre .7,
+      omega arith,
+      s .pre .8,
+      s .pre .9,
+    )
+
+same-length : tie.Need-same-length
+same-length c = search needs
+
+same-length-2 : tie.Need-same-length-2
+same-length-2 c = search needs
+
+same-length-3 : tie.Need-same-length-3
+same-length-3 c = search needs
+
+same-length-4 : tie.Need-same-length-4
+same-length-4 c = search needs
+
+same-length-5 : tie.Need-same-length-5
+same-length-5 c = search needs
+
+returns : tie.Need-returns
+returns c =
+    let s = c .before .before .before .before .before .before .before .before .before .before .before .before .before .before .before .before .before .before .before .before .before .before .before .before .before in
+    told (s .args .script .now) (s .args .domain) (s .args .reading) (s .args .before) (s .args .waiting .now) (lent (s .args .table .now) (s .args .files .now) (s .args .journal .now))
+    (part-lent (s .args .script .now) (s .args .reading .from) (s .args .reading .count)) (c .before .before .before .before .before .before .before .before .before .before .run-step .ensures)
+
+pub step-read-spec : {M : Type 1} → statement M
+step-read-spec =
+    tie.close
+    (tie.spec
+    add-end
+    sub-run-step
+    part-run-step-start
+    part-run-step-end
+    run-step-requires
+    same-length
+    same-length-2
+    same-length-3
+    same-length-4
+    same-length-5
+    returns)

@@ -1,0 +1,4 @@
+pub mod Acts
+pub mod Inside
+pub mod Made
+pub mod Sums

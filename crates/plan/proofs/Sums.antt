@@ -1,0 +1,102 @@
+-- INCREASE: whether the sum fits, the new record in the bytes that are made, and what is written. Assumes nothing.
+use mathlib.Core.Path.{_≡_, sym, ap, _∙_}
+use mathlib.Core.Bool.{true, false}
+use mathlib.Core.List.{List, _++_, append-assoc}
+use Prim.Native.Nat.{ℕ, _+_, _-_, _/_, _^_, _≤_, _<_}
+use native.Mathlib.Nat.{div-eq-of-lt, one-le-pow, lt-div-mul-add}
+use native.Mathlib.Decide.{decLt}
+use native.Mathlib.Omega.{arith}
+use lib.ListN.{length, take, length-append}
+use lib.Seq.{take-at}
+use lib.Dec.{ltb}
+use borrow.Author.Tests.{lt-ltb, le-ltb}
+use Rattle.octets.specs.Bytes.{part, value, bytesOf, overwrite}
+use Rattle.octets.proofs.Picks.{pick-true, pick-false}
+use Rattle.octets.proofs.Writes.{part-length, part-part, write-two}
+use Rattle.octets.proofs.Numbers.{bytesOf-length}
+use Rattle.card.specs.declared.Row.{Row}
+use Rattle.card.specs.Records.{recordOffset}
+use Rattle.session.specs.declared.Session.{Session}
+use Rattle.command.specs.Instructions as ins
+use Rattle.command.specs.Outcomes.{Plan, failed}
+use Rattle.command.specs.Files.{File, recordBytes, sum, writeIn, newRecord}
+use Rattle.command.specs.Checks.{checkWord, sumFits}
+use Rattle.plan.specs.declared.Change.the-variants.{SumRecord}
+use Rattle.plan.specs.Decisions.{recordWrites, writesOf, newestOf, summed}
+
+-- a sum and what its carry tells
+module _ (n m : ℕ) where
+  sum-long : (n / m ≡ 0 → ⊥) → ltb n m ≡ false
+  sum-long z = elim (decLt n m) [ yes l ↦ absurd (z (div-eq-of-lt l)) | no g ↦ le-ltb n m (omega arith) ]
+
+  sum-short : 0 < m → n / m ≡ 0 → ltb n m ≡ true
+  sum-short h e = lt-ltb n m (let l = rw e at (lt-div-mul-add {a = n} h) in omega arith)
+
+-- record 1 of a file, as it is lent: its place in the file is given
+abbrev pub first : List ℕ → Row → ℕ → List ℕ
+first files r off = part files (r .start + off) (r .start + off + r .«record» - (r .start + off))
+
+lent-size : (start off size : ℕ) → start + off + size - (start + off) ≡ size
+lent-size start off size = omega arith
+
+first-length : (files : List ℕ) (r : Row) (off : ℕ) → off + r .«record» ≤ r .size → r .start + r .size ≤ length files → length (first files r off) ≡ r .«record»
+first-length files r off inside lies =
+    rw (lent-size (r .start) off (r .«record»)) (part-length files (r .start + off) (r .«record») (omega arith))
+
+-- the file that INCREASE works on
+pub record Raised (files : List ℕ) (s : Session) (r : Row) (off : ℕ) (f : File) : Type 0 where
+  pub at : off ≡ recordOffset r 1
+  pub inside : off + r .«record» ≤ r .size
+  pub lies : r .start + r .size ≤ length files
+  pub row : f .row ≡ r
+  pub entry : f .entry ≡ s .file
+  pub content : f .content ≡ part files (r .start) (r .size)
+
+module _ {files : List ℕ} {s : Session} {r : Row} {off : ℕ} {f : File} (h : Raised files s r off f) («data» : List ℕ) where
+  abbrev added : ℕ
+  added = value (first files r off) + value «data»
+
+  first-sum : added ≡ sum (f .row) (f .content) «data»
+  unfolding sum recordBytes
+  first-sum =
+      rw (h .row, h .content, ← (h .at), lent-size (r .start) off (r .«record»), part-part files (r .start) (r .size) off (r .«record») (h .inside))
+
+  width : length (first files r off) ≡ f .row .«record»
+  width = first-length files r off (h .inside) (h .lies) ∙ ap (λ (q : Row). q .«record») (sym (h .row))
+
+  module _ {carry : ℕ} (e : carry ≡ added / 256 ^ length (first files r off)) where
+    carried : carry ≡ sum (f .row) (f .content) «data» / 256 ^ f .row .«record»
+    carried = e ∙ (λ i. first-sum i / 256 ^ width i)
+
+    pub sum-fails : (carry ≡ 0 → ⊥) → (plan : Plan) → failed s 0x9850 ≡ summed ins.increase f «data» s plan
+    unfolding summed sumFits checkWord
+    sum-fails z plan = sym (pick-false _ _ _ (sum-long _ (256 ^ f .row .«record») (λ q. z (carried ∙ q))))
+
+    pub sum-done : carry ≡ 0 → {p plan : Plan} → p ≡ plan → p ≡ summed ins.increase f «data» s plan
+    unfolding summed sumFits
+    sum-done z q = q ∙ sym (pick-true _ _ _ (sum-short _ (256 ^ f .row .«record») (one-le-pow (f .row .«record») 256 (omega arith)) (sym carried ∙ z)))
+
+  -- the new record
+  abbrev new : List ℕ
+  new = bytesOf (f .row .«record») (sum (f .row) (f .content) «data»)
+
+  new-length : length new ≡ r .«record»
+  new-length = bytesOf-length (f .row .«record») _ ∙ ap (λ (q : Row). q .«record») (h .row)
+
+  pub new-count : r .«record» + length «data» ≡ length (new ++ «data»)
+  new-count = let n = new-length in simp length-append (omega arith)
+
+  pub new-bytes : (w₀ : List ℕ) {w₁ w₂ : List ℕ} → length w₀ ≡ 255 → r .«record» + length «data» ≤ 255 → w₁ ≡ overwrite w₀ 0 (bytesOf (length (first files r off)) added) → w₂ ≡ overwrite w₁ (r .«record») «data» → w₂ ≡ overwrite w₀ 0 (new ++ «data»)
+  new-bytes w₀ {w₁} l k e g =
+      let n = new-length in
+      let p : r .«record» ≡ 0 + length new = omega arith in
+      let m : w₁ ≡ overwrite w₀ 0 new = e ∙ (λ i. overwrite w₀ 0 (bytesOf (width i) (first-sum i))) in
+      g ∙ (λ i. overwrite (m i) (p i) «data») ∙ sym (write-two w₀ 0 new «data» (omega arith))
+
+  new-taken : (w₀ : List ℕ) → take (r .«record») (overwrite w₀ 0 (new ++ «data»)) ≡ new
+  unfolding overwrite
+  new-taken w₀ = rw append-assoc (take-at new _ (r .«record») new-length)
+
+  pub new-writes : (w₀ : List ℕ) → writesOf (SumRecord (newestOf (s .file) r)) «data» (overwrite w₀ 0 (new ++ «data»)) ≡ newRecord f new
+  unfolding writesOf recordWrites newestOf newRecord writeIn
+  new-writes w₀ = rw (new-taken w₀, h .row, h .entry)

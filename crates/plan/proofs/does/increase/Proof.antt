@@ -1,0 +1,125 @@
+-- `plan::does::increase` meets its contract: a sum that fits is the new record, and it is made with the added bytes behind it. Assumes nothing.
+use mathlib.Core.Path.{_≡_, _∙_}
+use mathlib.Core.List.{_++_}
+use native.Mathlib.Omega.{arith}
+use lib.ListN.{length}
+use Rattle.octets.specs.Bytes.{part, bytesOf}
+use Rattle.session.specs.Session.{atRecord}
+use Rattle.command.specs.Outcomes.{normal, produced}
+use Rattle.command.specs.Files.{File, sum}
+use Rattle.command.specs.Plans as plans
+use Rattle.plan.specs.declared.Change.the-variants.{SumRecord}
+use Rattle.plan.specs.Decisions.{writesOf, Fits, newestOf}
+use Rattle.plan.proofs.Inside.{none-fits, newest-fits}
+use Rattle.plan.proofs.Sums.{Raised, sum-fails, sum-done, new-bytes, new-count, new-writes}
+use borrow.Author.Needs.{needs}
+use Rattle.plan.proofs.does.increase.Statement.{statement}
+use Rattle.plan.proofs.does.increase.Tie as tie
+
+record-offset-requires : tie.Need-record-offset-requires
+record-offset-requires c κs = search needs
+
+add-at : tie.Need-add-at
+add-at c = search needs
+
+add-end : tie.Need-add-end
+add-end c = search needs
+
+sub-add : tie.Need-sub-add
+sub-add c = search needs
+
+part-add-start : tie.Need-part-add-start
+part-add-start c = search needs
+
+part-add-end : tie.Need-part-add-end
+part-add-end c = search needs
+
+add-requires : tie.Need-add-requires
+add-requires c κs = search needs
+
+failed-requires : tie.Need-failed-requires
+failed-requires c κs = search needs
+
+same-length : tie.Need-same-length
+same-length c = search needs
+
+-- the file, in the terms of the code
+raised : (c : tie.After-record-offset) (f : File) → f .row ≡ c .before .before .before .before .args .r → f .entry ≡ c .before .before .before .before .args .s .file → f .content ≡ part (c .before .before .before .before .args .files .now) (c .before .before .before .before .args .r .start) (c .before .before .before .before .args .r .size) → Raised (c .before .before .before .before .args .files .now) (c .before .before .before .before .args .s) (c .before .before .before .before .args .r) (c .record-offset .result) f
+raised c f row entry content =
+    record {
+      at = c .record-offset .ensures .0;
+      inside = c .record-offset .ensures .1;
+      lies = c .before .before .before .before .pre .0 .inside;
+      row = row;
+      entry = entry;
+      content = content;
+    }
+
+returns : tie.Need-returns
+returns c =
+    let a = c .before .before .before .before .before .before .before .before .before .before .before .before .args in (
+      λ f row entry content.
+          c .failed .ensures .0 (a .«data» .now) _
+          ∙ sum-fails (raised (c .before .before .before .before .before .before .before .before) f row entry content) (a .«data» .now) (c .before .before .before .before .add .ensures .0) (c .before .if1 .taken) (plans.increase (a .format) (a .«data» .now) (a .s) f),
+      λ t h. none-fits t (length (a .files .now)) (length (a .«data» .now)) (c .failed .ensures .1),
+    )
+
+copy-requires : tie.Need-copy-requires
+copy-requires c κs = search needs
+
+at-record-requires : tie.Need-at-record-requires
+at-record-requires c κs = search needs
+
+add-produced : tie.Need-add-produced
+add-produced c = search needs
+
+cast-new-record : tie.Need-cast-new-record
+cast-new-record c = search needs
+
+new-record-requires : tie.Need-new-record-requires
+new-record-requires c κs = search needs
+
+produced-requires : tie.Need-produced-requires
+produced-requires c κs = let p = c .before .before .before .before .before .before .before .before .before .before .before .before .before .before .before .before .before .before .pre in (omega (arith, p .1, p .2), omega arith)
+
+same-length-2 : tie.Need-same-length-2
+same-length-2 c = search needs
+
+returns-2 : tie.Need-returns-2
+unfolding plans.increase Fits newestOf
+returns-2 c =
+    let a = c .before .before .before .before .before .before .before .before .before .before .before .before .before .before .before .before .before .before .before .args in
+    let p = c .before .before .before .before .before .before .before .before .before .before .before .before .before .before .before .before .before .before .before .pre in (
+      λ f row entry content.
+          let h = raised (c .before .before .before .before .before .before .before .before .before .before .before .before .before .before .before) f row entry content in
+          let out = bytesOf (f .row .«record») (sum (f .row) (f .content) (a .«data» .now)) ++ a .«data» .now in
+          let e = new-bytes h (a .«data» .now) (a .made .now) (p .3) (omega (arith, p .1, p .2)) (c .before .before .before .before .before .before .before .before .before .before .before .add .ensures .1) (c .before .before .before .before .before .before .copy .ensures) in
+          sum-done h (a .«data» .now) (c .before .before .before .before .before .before .before .before .before .before .before .add .ensures .0) (c .before .before .before .before .before .before .before .before .if1 .left)
+          (c .produced .ensures .0 (a .«data» .now) _ out (a .made .now) e (new-count h (a .«data» .now))
+          ∙ (λ i. produced (a .format) (c .before .before .before .at-record .ensures i) normal out (writesOf (SumRecord (c .before .new-record .ensures i)) (a .«data» .now) (e i)))
+          ∙ (λ i. produced (a .format) (atRecord (a .s) 1) normal out (new-writes h (a .«data» .now) (a .made .now) i))),
+      λ t h. rw (c .produced .ensures .1, c .before .new-record .ensures) (newest-fits t (length (a .files .now)) (a .s .file) (a .r) (p .0) h, omega (arith, p .1)),
+    )
+
+pub increase-spec : {M : Type 1} → statement M
+increase-spec =
+    tie.close
+    (tie.spec
+    record-offset-requires
+    add-at
+    add-end
+    sub-add
+    part-add-start
+    part-add-end
+    add-requires
+    failed-requires
+    same-length
+    returns
+    copy-requires
+    at-record-requires
+    add-produced
+    cast-new-record
+    new-record-requires
+    produced-requires
+    same-length-2
+    returns-2)

@@ -1,0 +1,97 @@
+-- `plan::does::search_records` meets its contract: what is found is made, and the first becomes current. Assumes nothing.
+use mathlib.Core.Path.{_≡_, sym, ap, _∙_}
+use mathlib.Core.List.{List, []}
+use Prim.Native.Nat.{ℕ, _≤_}
+use native.Mathlib.Omega.{arith}
+use lib.ListN.{length}
+use Rattle.octets.specs.Bytes.{byte, part}
+use Rattle.command.specs.Files.{File, foundRecords}
+use Rattle.command.specs.Outcomes.{normal, produced}
+use Rattle.command.specs.Plans.{namedBy, searched}
+use Rattle.command.specs.Plans as plans
+use Rattle.plan.specs.Decisions.{writesOf}
+use Rattle.plan.proofs.Made.{write-short, searched-none, searched-some}
+use borrow.Author.Needs.{needs}
+use Rattle.plan.proofs.does.search_records.Statement.{statement}
+use Rattle.plan.proofs.does.search_records.Tie as tie
+
+cast-record-of : tie.Need-cast-record-of
+cast-record-of c = search needs
+
+record-of-requires : tie.Need-record-of-requires
+record-of-requires c κs = search needs
+
+search-requires : tie.Need-search-requires
+search-requires c κs = search needs
+
+done-requires : tie.Need-done-requires
+done-requires c κs = search needs
+
+same-length : tie.Need-same-length
+same-length c = search needs
+
+-- what is found, as the code names it and as the definition does
+abbrev found : tie.After-search → List ℕ
+found c =
+    let a = c .before .before .before .before .before .before .before .args in
+    foundRecords (a .r) (part (a .files .now) (a .r .start) (a .r .size)) (a .c .p2) (a .«data» .now) (c .before .before .record-of .result)
+
+as-named : (c : tie.After-search) (f : File) → f .row ≡ c .before .before .before .before .before .before .before .args .r → f .content ≡ part (c .before .before .before .before .before .before .before .args .files .now) (c .before .before .before .before .before .before .before .args .r .start) (c .before .before .before .before .before .before .before .args .r .size) → searched (c .before .before .before .before .before .before .before .args .format) (c .before .before .before .before .before .before .before .args .s) (found c) ≡ plans.search (c .before .before .before .before .before .before .before .args .format) (c .before .before .before .before .before .before .before .args .c) (c .before .before .before .before .before .before .before .args .«data» .now) (c .before .before .before .before .before .before .before .args .s) f
+unfolding plans.search
+as-named c f row content =
+    let a = c .before .before .before .before .before .before .before .args in
+    λ i. searched (a .format) (a .s) (foundRecords (sym row i) (sym content i) (a .c .p2) (a .«data» .now) ((c .before .before .record-of .ensures ∙ ap (namedBy (a .c) (a .s .number)) (sym row)) i))
+
+returns : tie.Need-returns
+unfolding writesOf
+returns c =
+    let a = c .before .before .before .before .before .before .before .before .before .before .before .args in
+    (λ f row content. c .done .ensures .0 (a .«data» .now) _ ∙ searched-none (a .format) (a .s) (found (c .before .before .before .before)) (sym (c .before .before .before .before .search .ensures .1) ∙ c .before .if1 .taken) ∙ as-named (c .before .before .before .before) f row content, c .done .ensures .1)
+
+slice-read-wide : tie.Need-slice-read-wide
+slice-read-wide c = search needs
+
+wide-requires : tie.Need-wide-requires
+wide-requires c κs = search needs
+
+at-record-requires : tie.Need-at-record-requires
+at-record-requires c κs = search needs
+
+produced-requires : tie.Need-produced-requires
+produced-requires c κs =
+    let s = c .before .before .before .before .before .before .search in
+    let l : length (found (c .before .before .before .before .before .before)) ≤ length (c .before .before .before .before .before .before .before .before .before .before .before .before .before .args .made .now) = write-short _ _ (sym (ap length (s .ensures .0)) ∙ s .kept .1 .1 .1 .1 .1 .0) in
+    (omega (arith, s .ensures .1, c .before .before .before .before .before .before .before .before .before .before .before .before .before .pre .4), omega arith)
+
+same-length-2 : tie.Need-same-length-2
+same-length-2 c = search needs
+
+returns-2 : tie.Need-returns-2
+unfolding writesOf
+returns-2 c =
+    let a = c .before .before .before .before .before .before .before .before .before .before .before .before .before .before .args in
+    let s = c .before .before .before .before .before .before .before .search .ensures in (
+      λ f row content.
+          c .produced .ensures .0 (a .«data» .now) _ (found (c .before .before .before .before .before .before .before)) (a .made .now) (s .0) (s .1)
+          ∙ (λ i. produced (a .format) (c .before .at-record .ensures i) normal (found (c .before .before .before .before .before .before .before)) [])
+          ∙ searched-some (a .format) (a .s) (a .made .now) (found (c .before .before .before .before .before .before .before)) _ (λ z. c .before .before .before .before .if1 .left (s .1 ∙ z)) (c .before .before .wide .ensures .0 ∙ ap (λ (l : List ℕ). byte l 0) (s .0))
+          ∙ as-named (c .before .before .before .before .before .before .before) f row content,
+      c .produced .ensures .1,
+    )
+
+pub search-records-spec : {M : Type 1} → statement M
+search-records-spec =
+    tie.close
+    (tie.spec
+    cast-record-of
+    record-of-requires
+    search-requires
+    done-requires
+    same-length
+    returns
+    slice-read-wide
+    wide-requires
+    at-record-requires
+    produced-requires
+    same-length-2
+    returns-2)

@@ -1,0 +1,60 @@
+-- `plan::does::select_entry` meets its contract, with and without the FCP. Assumes nothing.
+use mathlib.Core.Path.{_∙_}
+use mathlib.Core.List.{[]}
+use Prim.Native.Nat.{ℕ, _<_}
+use native.Mathlib.Omega.{arith}
+use Rattle.octets.proofs.Picks.{eq-yes, eq-no, on-pick}
+use Rattle.card.specs.declared.Row.{Row}
+use Rattle.card.specs.Row.{isDeactivated}
+use Rattle.session.specs.Fcp.{fcp}
+use Rattle.command.specs.Outcomes.{done, produced}
+use Rattle.command.specs.Plans.{selectWord, selectEntry}
+use Rattle.plan.specs.Decisions.{writesOf}
+use borrow.Author.Needs.{needs}
+use Rattle.plan.proofs.does.select_entry.Statement.{statement}
+use Rattle.plan.proofs.does.select_entry.Tie as tie
+
+selected-requires : tie.Need-selected-requires
+selected-requires c κs = search needs
+
+select-word-requires : tie.Need-select-word-requires
+select-word-requires c κs = search needs
+
+done-requires : tie.Need-done-requires
+done-requires c κs = search needs
+
+returns : tie.Need-returns
+unfolding selectEntry writesOf
+returns c = (λ «data». eq-yes _ _ _ (c .before .if1 .taken) (c .done .ensures .0 «data» _ ∙ (λ i. done (c .before .before .before .selected .ensures i) (c .before .before .select-word .ensures i) [])), c .done .ensures .1)
+
+put-fcp-requires : tie.Need-put-fcp-requires
+put-fcp-requires c κs = search needs
+
+word-small : (r : Row) → selectWord r < 65536
+unfolding selectWord
+word-small r = on-pick (λ (w : ℕ). w < 65536) (isDeactivated r) _ _ (λ e. omega arith) (λ e. omega arith)
+
+produced-requires : tie.Need-produced-requires
+produced-requires c κs = (omega (arith, c .before .before .put-fcp .ensures .2), rw (c .before .before .before .before .before .select-word .ensures) (word-small (c .before .before .before .before .before .before .before .before .args .r)))
+
+same-length : tie.Need-same-length
+same-length c = search needs
+
+returns-2 : tie.Need-returns-2
+unfolding selectEntry writesOf
+returns-2 c =
+    let s = c .before .before .before .before .before .before .before .before .before .args in
+    (λ «data». eq-no _ _ _ (c .before .before .before .before .before .if1 .left) (c .produced .ensures .0 «data» _ (fcp (s .r)) (s .made .now) (c .before .before .before .put-fcp .ensures .0) (c .before .before .before .put-fcp .ensures .1) ∙ (λ i. produced (s .format) (c .before .before .before .before .before .before .before .selected .ensures i) (c .before .before .before .before .before .before .select-word .ensures i) (fcp (s .r)) [])), c .produced .ensures .1)
+
+pub select-entry-spec : {M : Type 1} → statement M
+select-entry-spec =
+    tie.close
+    (tie.spec
+    selected-requires
+    select-word-requires
+    done-requires
+    returns
+    put-fcp-requires
+    produced-requires
+    same-length
+    returns-2)

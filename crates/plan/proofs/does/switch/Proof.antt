@@ -1,0 +1,26 @@
+-- `plan::does::switch` meets its contract. Assumes nothing.
+use mathlib.Core.Path.{_∙_}
+use Rattle.command.specs.Plans.{switch}
+use Rattle.plan.specs.Decisions.{writesOf}
+use borrow.Author.Needs.{needs}
+use Rattle.plan.proofs.does.switch.Statement.{statement}
+use Rattle.plan.proofs.does.switch.Tie as tie
+
+cast-t3 : tie.Need-cast-t3
+cast-t3 c = search needs
+
+mul-t4 : tie.Need-mul-t4
+mul-t4 c = search needs
+
+add-t5 : tie.Need-add-t5
+add-t5 c = search needs
+
+done-requires : tie.Need-done-requires
+done-requires c κs = search needs
+
+returns : tie.Need-returns
+unfolding switch writesOf
+returns c = (λ «data» bytes f e. c .done .ensures .0 «data» bytes ∙ rw e, c .done .ensures .1)
+
+pub switch-spec : {M : Type 1} → statement M
+switch-spec = tie.close (tie.spec cast-t3 mul-t4 add-t5 done-requires returns)

@@ -1,0 +1,215 @@
+// What each instruction does where its checks hold, before anything is stored. What it makes is put at the start of lent bytes.
+use crate::Change;
+use crate::Decision;
+use crate::NewRecord;
+use crate::done;
+use crate::failed;
+use crate::handed;
+use crate::produced;
+use card::Row;
+use command::Command;
+use command::Format;
+use command::instruction::NO_DATA;
+use command::records::number_after;
+use command::records::record_of;
+use session::Session;
+ghost use mathlib.Core.Path.{_≡_};
+ghost use mathlib.Core.Bool.{false};
+ghost use mathlib.Core.List.{List};
+ghost use Prim.Native.Nat.{ℕ, _≤_, _<_, min};
+ghost use lib.ListN.{length};
+ghost use Rattle.octets.specs.Bytes.{part};
+ghost use Rattle.card.specs.Row.{Narrow, isCyclic, placeOfNewest, placeOfState};
+ghost use Rattle.card.specs.Sound.{recordCount};
+ghost use Rattle.session.specs.Fcp.{FcpFits};
+ghost use Rattle.command.specs.Instructions as ins;
+ghost use Rattle.command.specs.Files.{File, Recorded};
+ghost use Rattle.command.specs.Plans as plans;
+ghost use Rattle.plan.specs.Decisions.{planOf, Fits, newestOf, updateChange, summed};
+
+// The word of a SELECT that finds an entry.
+fn select_word(r: Row) -> usize
+    ensures { λ w. ⌜ w ≡ plans.selectWord r ⌝ }
+{
+    if r.state == card::DEACTIVATED {
+        return 0x6283;
+    }
+    0x9000
+}
+
+// SELECT of an entry with its row.
+pub fn select_entry(
+    format: Format,
+    s: Session,
+    p2: usize,
+    e: usize,
+    r: Row,
+    made: &mut [u8],
+) -> Decision
+    requires { ⌜ FcpFits r × Narrow r × (e < 256) × (length (now made) ≡ 255) ⌝ }
+    ensures { λ d. ⌜ ((«data» : List ℕ) → planOf d «data» (now (made .exit)) ≡ plans.selectEntry format s p2 e r) × (d .change ≡ Change.Nothing) ⌝ }
+{
+    let next = session::selected(s, e, r);
+    let word = select_word(r);
+    if p2 == NO_DATA {
+        return done(next, word, Change::Nothing);
+    }
+    let n = session::fcp::put_fcp(made, r);
+    produced(format, next, n, word, Change::Nothing)
+}
+
+// The most that P3 00 reads.
+fn most_read(format: Format) -> usize
+    ensures { λ n. ⌜ n ≡ plans.mostRead format ⌝ }
+{
+    match format {
+        Format::Compact => 256,
+        Format::Expanded => 256,
+    }
+}
+
+// The smaller of two numbers.
+fn least(a: usize, b: usize) -> usize
+    ensures { λ n. ⌜ n ≡ min a b ⌝ }
+{
+    if a <= b {
+        return a;
+    }
+    b
+}
+
+// READ BINARY.
+pub fn read_binary(format: Format, c: Command, s: Session, r: Row) -> Decision
+    requires { ⌜ Narrow r × (c .p1 < 256) × (c .p2 < 256) × (plans.offsetOf c < r .size) ⌝ }
+    ensures { λ d. ⌜ ((«data» bytes : List ℕ) (f : File) → f .row ≡ r → planOf d «data» bytes ≡ plans.readBinary format c s f) × (d .change ≡ Change.Nothing) ⌝ }
+{
+    let offset = c.p1 * 256 + c.p2;
+    let place = r.start + offset;
+    let left = r.size - offset;
+    if c.p3 == 0 {
+        return handed(s, 0x9000, place, least(left, most_read(format)));
+    }
+    if c.p3 <= left {
+        return handed(s, 0x9000, place, c.p3);
+    }
+    handed(s, 0x6282, place, left)
+}
+
+// UPDATE BINARY.
+pub fn update_binary(c: Command, s: Session, r: Row) -> Decision
+    requires { ⌜ (c .p1 < 256) × (c .p2 < 256) ⌝ }
+    ensures { λ d. ⌜ ((«data» bytes : List ℕ) (f : File) → f .row ≡ r → planOf d «data» bytes ≡ plans.updateBinary c «data» s f) × (d .change ≡ Change.Content (r .start) (r .size) (plans.offsetOf c)) ⌝ }
+{
+    let offset = c.p1 * 256 + c.p2;
+    done(s, 0x9000, Change::Content(r.start, r.size, offset))
+}
+
+// READ RECORD.
+pub fn read_record(c: Command, s: Session, r: Row) -> Decision
+    requires { ⌜ Narrow r × (1 ≤ r .«record») × (recordCount r < 256) × (1 ≤ plans.namedBy c (s .number) r) × (plans.namedBy c (s .number) r ≤ recordCount r) ⌝ }
+    ensures { λ d. ⌜ ((«data» bytes : List ℕ) (f : File) → f .row ≡ r → planOf d «data» bytes ≡ plans.readRecord c s f) × (d .change ≡ Change.Nothing) ⌝ }
+{
+    let current = s.number as usize;
+    let number = record_of(c, current, r);
+    let place = r.start + card::records::record_offset(r, number);
+    let next = session::at_record(s, number_after(c.p2, current, number));
+    handed(next, 0x9000, place, r.record)
+}
+
+// The new record of a cyclic file.
+fn new_record(file: usize, r: Row) -> NewRecord
+    requires { ⌜ Narrow r × (1 ≤ r .«record») × (1 ≤ recordCount r) ⌝ }
+    ensures { λ n. ⌜ n ≡ newestOf file r ⌝ }
+{
+    NewRecord {
+        entry: file,
+        start: r.start,
+        size: r.size,
+        record: r.record,
+        place: card::records::oldest_place(r),
+    }
+}
+
+// UPDATE RECORD.
+pub fn update_record(c: Command, s: Session, r: Row) -> Decision
+    requires { ⌜ Narrow r × (1 ≤ r .«record») × (1 ≤ recordCount r) × (recordCount r < 256) × (isCyclic r ≡ false → (1 ≤ plans.namedBy c (s .number) r) × (plans.namedBy c (s .number) r ≤ recordCount r)) ⌝ }
+    ensures { λ d. ⌜ ((«data» bytes : List ℕ) (f : File) → f .row ≡ r → f .entry ≡ s .file → planOf d «data» bytes ≡ plans.updateRecord c «data» s f) × (d .change ≡ updateChange c s r) ⌝ }
+{
+    if r.kind == card::CYCLIC {
+        let next = session::at_record(s, 1);
+        return done(
+            next,
+            0x9000,
+            Change::DataRecord(new_record(s.file as usize, r)),
+        );
+    }
+    let current = s.number as usize;
+    let number = record_of(c, current, r);
+    let offset = card::records::record_offset(r, number);
+    let next = session::at_record(s, number_after(c.p2, current, number));
+    done(next, 0x9000, Change::Content(r.start, r.size, offset))
+}
+
+// SEARCH.
+pub fn search_records(
+    format: Format,
+    c: Command,
+    data: &[u8],
+    s: Session,
+    r: Row,
+    files: &[u8],
+    made: &mut [u8],
+) -> Decision
+    requires { ⌜ Recorded (length (now files)) r × (c .instruction ≡ ins.search) × (1 ≤ plans.namedBy c (s .number) r) × (plans.namedBy c (s .number) r ≤ recordCount r) × (length (now made) ≡ 255) ⌝ }
+    ensures { λ d. ⌜ ((f : File) → f .row ≡ r → f .content ≡ part (now (files .entry)) (r .start) (r .size) → planOf d (now («data» .entry)) (now (made .exit)) ≡ plans.search format c (now («data» .entry)) s f) × (d .change ≡ Change.Nothing) ⌝ }
+{
+    let number = record_of(c, s.number as usize, r);
+    let n = command::search::search(files, r, c.p2, number, data, made);
+    if n == 0 {
+        return done(s, 0x6282, Change::Nothing);
+    }
+    let next = session::at_record(s, octets::wide(made[0]));
+    produced(format, next, n, 0x9000, Change::Nothing)
+}
+
+// INCREASE: it makes the sum and then the added bytes.
+pub fn increase(
+    format: Format,
+    data: &[u8],
+    s: Session,
+    r: Row,
+    files: &[u8],
+    made: &mut [u8],
+) -> Decision
+    requires { ⌜ Recorded (length (now files)) r × (r .«record» ≤ 127) × (length (now «data») ≤ r .«record») × (length (now made) ≡ 255) ⌝ }
+    ensures { λ d. ⌜ ((f : File) → f .row ≡ r → f .entry ≡ s .file → f .content ≡ part (now (files .entry)) (r .start) (r .size) → planOf d (now («data» .entry)) (now (made .exit)) ≡ summed ins.increase f (now («data» .entry)) s (plans.increase format (now («data» .entry)) s f)) × ((t : ℕ) → placeOfNewest (s .file) < t → Fits t (length (now (files .entry))) (length (now («data» .entry))) (d .change)) ⌝ }
+{
+    let record = r.record;
+    let at = r.start + card::records::record_offset(r, 1);
+    let end = at + record;
+    let carry = command::sum::add(&files[at..end], data, made);
+    if carry != 0 {
+        return failed(s, 0x9850);
+    }
+    octets::copy(made, record, data);
+    let next = session::at_record(s, 1);
+    produced(
+        format,
+        next,
+        record + data.len(),
+        0x9000,
+        Change::SumRecord(new_record(s.file as usize, r)),
+    )
+}
+
+// DEACTIVATE and ACTIVATE: the state that the file gets.
+pub fn switch(state: usize, s: Session) -> Decision
+    requires { ⌜ s .file < 64 ⌝ }
+    ensures { λ d. ⌜ ((«data» bytes : List ℕ) (f : File) → f .entry ≡ s .file → planOf d «data» bytes ≡ plans.switch state s f) × (d .change ≡ Change.TableByte (placeOfState (s .file)) state) ⌝ }
+{
+    done(
+        s,
+        0x9000,
+        Change::TableByte(card::ENTRY_SIZE * (s.file as usize) + 10, state),
+    )
+}

@@ -1,0 +1,116 @@
+// What a command comes to: what its instruction does, before anything is stored, and doing it.
+pub mod act;
+pub mod does;
+
+use command::Format;
+use command::Outcome;
+use session::Session;
+ghost use mathlib.Core.Path.{_≡_};
+ghost use mathlib.Core.List.{List};
+ghost use Prim.Native.Nat.{ℕ, _≤_, _<_};
+ghost use lib.ListN.{length};
+ghost use Rattle.octets.specs.Bytes.{overwrite};
+ghost use Rattle.command.specs.Outcomes as spec;
+ghost use Rattle.plan.specs.Decisions.{writesOf, planOf};
+
+// A new record of a cyclic file: the file's entry number, start, size and record length, and the oldest place.
+pub struct NewRecord {
+    pub entry: usize,
+    pub start: usize,
+    pub size: usize,
+    pub record: usize,
+    pub place: usize,
+}
+
+// What a command writes: nothing; its data into a file (its start and size) at an offset; its data, or the sum at the start of what it
+// made, as a new record; or a byte of the table at a place.
+pub enum Change {
+    Nothing,
+    Content(usize, usize, usize),
+    DataRecord(NewRecord),
+    SumRecord(NewRecord),
+    TableByte(usize, usize),
+}
+
+// The session after a command, how it ends, how many bytes it made that go to the waiting ones, and what it writes.
+pub struct Decision {
+    pub session: Session,
+    pub outcome: Outcome,
+    pub made: u8,
+    pub change: Change,
+}
+
+// It ends with an error word, changing nothing.
+pub fn failed(s: Session, word: usize) -> Decision
+    ensures { λ d. ⌜ ((«data» bytes : List ℕ) → planOf d «data» bytes ≡ spec.failed s word) × (d .change ≡ Change.Nothing) ⌝ }
+{
+    Decision {
+        session: s,
+        outcome: Outcome::Error(word),
+        made: 0,
+        change: Change::Nothing,
+    }
+}
+
+// It ends well, with a word and no data.
+pub fn done(s: Session, word: usize, change: Change) -> Decision
+    ensures { λ d. ⌜ ((«data» bytes : List ℕ) → planOf d «data» bytes ≡ spec.done s word (writesOf change «data» bytes)) × (d .change ≡ change) ⌝ }
+{
+    let next = session::dropped(s);
+    Decision {
+        session: next,
+        outcome: Outcome::Well(word),
+        made: 0,
+        change,
+    }
+}
+
+// It ends well, with a part of the file memory.
+pub fn handed(s: Session, word: usize, place: usize, n: usize) -> Decision
+    ensures { λ d. ⌜ ((«data» bytes : List ℕ) → planOf d «data» bytes ≡ spec.handed s word place n) × (d .change ≡ Change.Nothing) ⌝ }
+{
+    let next = session::dropped(s);
+    Decision {
+        session: next,
+        outcome: Outcome::FromFiles(word, place, n),
+        made: 0,
+        change: Change::Nothing,
+    }
+}
+
+// It ends well, with the first waiting bytes, and leaves the session as it is.
+pub fn waited(s: Session, word: usize, n: usize) -> Decision
+    ensures { λ d. ⌜ (d .session ≡ s) × (d .outcome ≡ Outcome.FromWaiting word n) × (d .made ≡ 0) × (d .change ≡ Change.Nothing) ⌝ }
+{
+    Decision {
+        session: s,
+        outcome: Outcome::FromWaiting(word, n),
+        made: 0,
+        change: Change::Nothing,
+    }
+}
+
+// It ends well, with n bytes that it made.
+pub fn produced(format: Format, s: Session, n: usize, word: usize, change: Change) -> Decision
+    requires { ⌜ (n ≤ 255) × (word < 65536) ⌝ }
+    ensures { λ d. ⌜ ((«data» bytes out rest : List ℕ) → bytes ≡ overwrite rest 0 out → n ≡ length out → planOf d «data» bytes ≡ spec.produced format s word out (writesOf change «data» bytes)) × (d .change ≡ change) ⌝ }
+{
+    match format {
+        Format::Compact => {
+            Decision {
+                session: session::waits(s, n, word),
+                outcome: Outcome::Well(0x6100 + n),
+                made: n as u8,
+                change,
+            }
+        }
+        Format::Expanded => {
+            Decision {
+                session: session::dropped(s),
+                outcome: Outcome::FromWaiting(word, n),
+                made: n as u8,
+                change,
+            }
+        }
+    }
+}

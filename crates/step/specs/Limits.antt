@@ -1,0 +1,23 @@
+-- "If R-APDUs kept so far and this one (0 for AA and case 1 or 3 or a bad size) would pass 1,000 bytes, the command changes
+-- nothing, gets 6F00 and stops."
+use Prim.Native.Nat.{ℕ, _+_}
+use mathlib.Core.Bool.{Bool}
+use lib.ListN.{length}
+use lib.Dec.{ltb}
+use Rattle.octets.specs.Choice.{pick}
+use Rattle.tlv.specs.Lengths.{lengthBytes}
+use Rattle.session.specs.declared.Session.{Session}
+use Rattle.command.specs.Outcomes.{Plan, failed, dataCount}
+
+-- how many bytes an R-APDU takes whose data are n bytes: "23, length, data, status"
+unfoldable pub rapduSize : ℕ → ℕ
+rapduSize n = 1 + (length (lengthBytes (n + 2)) + (n + 2))
+
+-- "would pass 1,000 bytes"
+abbrev pub mostKept : ℕ
+mostKept = 1000
+
+-- a plan, where so many bytes of R-APDUs are kept and this one counts or not
+unfoldable pub limited : ℕ → Bool → Session → Plan → Plan
+limited kept counts s p =
+    pick (ltb mostKept (kept + pick counts (rapduSize (dataCount (p .outcome))) 0)) (failed s 0x6F00) p

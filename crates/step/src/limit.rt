@@ -1,0 +1,37 @@
+// "If R-APDUs kept so far and this one .. would pass 1,000 bytes, the command changes nothing, gets 6F00 and stops."
+use command::ends::data_count;
+use plan::Decision;
+use plan::failed;
+use session::Session;
+use tlv::lengths::length_size;
+ghost use mathlib.Core.Path.{_≡_};
+ghost use mathlib.Core.List.{List};
+ghost use Prim.Native.Nat.{ℕ, _+_, _≤_, _<_};
+ghost use Rattle.card.specs.Row.{Card};
+ghost use Rattle.command.specs.Outcomes.{Plan, dataCount};
+ghost use Rattle.step.specs.Limits as spec;
+ghost use Rattle.step.specs.Decisions.{Decided};
+
+const MOST_KEPT: usize = 1000;
+
+// How many bytes an R-APDU takes whose data are n bytes.
+pub fn rapdu_size(n: usize) -> usize
+    requires { ⌜ n + 2 < 65536 ⌝ }
+    ensures { λ r. ⌜ (r ≡ spec.rapduSize n) × (r ≤ n + 6) ⌝ }
+{
+    1 + (length_size(n + 2) + (n + 2))
+}
+
+// What was decided, where so many bytes of R-APDUs are kept and this one counts or not.
+pub fn limited(d: Decision, s: Session, kept: usize, counts: bool) -> Decision
+    requires { ⌜ (kept ≤ 1000) × (dataCount (d .outcome) ≤ 256) ⌝ }
+    ensures { λ r. ⌜ ((card : Card) («data» bytes : List ℕ) (plan : Plan) → Decided card «data» bytes plan d → Decided card «data» bytes (spec.limited kept counts s plan) r) ⌝ }
+{
+    if counts {
+        let outcome = d.outcome;
+        if MOST_KEPT < kept + rapdu_size(data_count(outcome)) {
+            return failed(s, 0x6F00);
+        }
+    }
+    d
+}
