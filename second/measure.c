@@ -28,6 +28,7 @@ static const struct side {
 enum { SELECT = 0xA4, UPDATE = 0xD6, SEARCH = 0xA2, INCREASE = 0x32 };
 enum content { ZEROS, MIXED }; /* of file memory; mixed bytes are below 80 */
 enum { WORKED = 0 };           /* entries of the worked card, by name */
+enum place { LAST, MIDDLE };
 
 struct row {
     const char *group, *name;
@@ -40,60 +41,64 @@ struct row {
     size_t script_length;
     uint8_t ins;              /* SELECT once, or after its file's SELECT this to the end */
     size_t lc;
-    uint8_t fill, last;       /* its data: all bytes but the last, and the last */
+    uint8_t fill, odd;        /* its data: all bytes but one, and that one, */
+    enum place place;         /* which stands there */
 };
 
 #define CALL "call"
 #define ENTRIES "one command, by entries"
 #define LENGTH "UPDATE of 1 byte on the worked card, by script length"
+#define CRAFTED "crafted, not in the ratio"
 
 static const struct row rows[] = {
     {CALL, "run, refused with 2, journal empty",
-     RUN, 64, MIXED, 0, 0, 1, 0x01, COMPACT, 1024, UPDATE, 1, 0x5A, 0x5A},
+     RUN, 64, MIXED, 0, 0, 1, 0x01, COMPACT, 1024, UPDATE, 1, 0x5A, 0x5A, LAST},
     {CALL, "run, refused with 5, journal full",
-     RUN, 64, MIXED, 2044, 15, 1, 0, COMPACT, 1024, UPDATE, 1, 0x5A, 0x5A},
+     RUN, 64, MIXED, 2044, 15, 1, 0, COMPACT, 1024, UPDATE, 1, 0x5A, 0x5A, LAST},
     {CALL, "one command on the worked card, compact",
-     RUN, WORKED, ZEROS, 0, 0, 0, 0, COMPACT, 7, SELECT, 2, 0, 0},
+     RUN, WORKED, ZEROS, 0, 0, 0, 0, COMPACT, 7, SELECT, 2, 0, 0, LAST},
     {CALL, "one command on the worked card, expanded",
-     RUN, WORKED, ZEROS, 0, 0, 0, 0, AA, 11, SELECT, 2, 0, 0},
+     RUN, WORKED, ZEROS, 0, 0, 0, 0, AA, 11, SELECT, 2, 0, 0, LAST},
     {CALL, "UPDATE of 1 byte",
-     RUN, 64, MIXED, 523, 15, 1, 0, COMPACT, 1024, UPDATE, 1, 0x5A, 0x5A},
+     RUN, 64, MIXED, 523, 15, 1, 0, COMPACT, 1024, UPDATE, 1, 0x5A, 0x5A, LAST},
     {CALL, "UPDATE of 1 byte, expanded (AE)",
-     RUN, 64, MIXED, 908, 15, 1, 0, AE, 1024, UPDATE, 1, 0x5A, 0x5A},
+     RUN, 64, MIXED, 908, 15, 1, 0, AE, 1024, UPDATE, 1, 0x5A, 0x5A, LAST},
     {CALL, "UPDATE of 1 byte until 6581",
-     RUN, 64, MIXED, 1500, 15, 1, 0, COMPACT, 1024, UPDATE, 1, 0x5A, 0x5A},
+     RUN, 64, MIXED, 1500, 15, 1, 0, COMPACT, 1024, UPDATE, 1, 0x5A, 0x5A, LAST},
     {CALL, "UPDATE of 247 bytes",
-     RUN, 64, MIXED, 1015, 15, 1, 0, COMPACT, 1024, UPDATE, 247, 0x5A, 0x5A},
+     RUN, 64, MIXED, 1015, 15, 1, 0, COMPACT, 1024, UPDATE, 247, 0x5A, 0x5A, LAST},
     {CALL, "SEARCH for 58 bytes, not found",
-     RUN, 64, MIXED, 2036, 15, 1, 0, COMPACT, 1024, SEARCH, 58, 0x25, 0x80},
+     RUN, 64, MIXED, 2036, 15, 1, 0, COMPACT, 1024, SEARCH, 58, 0x25, 0x80, LAST},
     {CALL, "SEARCH for 121 bytes, each place but for the last byte",
-     RUN, 64, ZEROS, 2036, 15, 1, 0, COMPACT, 1024, SEARCH, 121, 0x00, 0x01},
+     RUN, 64, ZEROS, 2036, 15, 1, 0, COMPACT, 1024, SEARCH, 121, 0x00, 0x01, LAST},
     {CALL, "SEARCH for 1 byte, found first in each record",
-     RUN, 64, ZEROS, 2036, 15, 1, 0, COMPACT, 1024, SEARCH, 1, 0x00, 0x00},
+     RUN, 64, ZEROS, 2036, 15, 1, 0, COMPACT, 1024, SEARCH, 1, 0x00, 0x00, LAST},
     {CALL, "INCREASE by 121 bytes",
-     RUN, 64, MIXED, 884, 15, 1, 0, COMPACT, 1024, INCREASE, 121, 0x01, 0x01},
+     RUN, 64, MIXED, 884, 15, 1, 0, COMPACT, 1024, INCREASE, 121, 0x01, 0x01, LAST},
     {CALL, "take-back of entries of 1 byte, journal full",
-     TAKE_BACK, 64, MIXED, 2044, 1, 1, 0, COMPACT, 0, 0, 0, 0, 0},
+     TAKE_BACK, 64, MIXED, 2044, 1, 1, 0, COMPACT, 0, 0, 0, 0, 0, LAST},
     {CALL, "take-back of entries of 246 bytes, journal full",
-     TAKE_BACK, 64, MIXED, 2044, 1, 246, 0, COMPACT, 0, 0, 0, 0, 0},
+     TAKE_BACK, 64, MIXED, 2044, 1, 246, 0, COMPACT, 0, 0, 0, 0, 0, LAST},
     {CALL, "confirmation, journal full",
-     CONFIRM, 64, MIXED, 2044, 16, 1, 0, COMPACT, 0, 0, 0, 0, 0},
+     CONFIRM, 64, MIXED, 2044, 16, 1, 0, COMPACT, 0, 0, 0, 0, 0, LAST},
     {ENTRIES, "1",
-     RUN, 1, MIXED, 0, 0, 0, 0, COMPACT, 7, SELECT, 2, 0, 0},
+     RUN, 1, MIXED, 0, 0, 0, 0, COMPACT, 7, SELECT, 2, 0, 0, LAST},
     {ENTRIES, "8",
-     RUN, 8, MIXED, 0, 0, 0, 0, COMPACT, 7, SELECT, 2, 0, 0},
+     RUN, 8, MIXED, 0, 0, 0, 0, COMPACT, 7, SELECT, 2, 0, 0, LAST},
     {ENTRIES, "16",
-     RUN, 16, MIXED, 0, 0, 0, 0, COMPACT, 7, SELECT, 2, 0, 0},
+     RUN, 16, MIXED, 0, 0, 0, 0, COMPACT, 7, SELECT, 2, 0, 0, LAST},
     {ENTRIES, "32",
-     RUN, 32, MIXED, 0, 0, 0, 0, COMPACT, 7, SELECT, 2, 0, 0},
+     RUN, 32, MIXED, 0, 0, 0, 0, COMPACT, 7, SELECT, 2, 0, 0, LAST},
     {ENTRIES, "64",
-     RUN, 64, MIXED, 0, 0, 0, 0, COMPACT, 7, SELECT, 2, 0, 0},
+     RUN, 64, MIXED, 0, 0, 0, 0, COMPACT, 7, SELECT, 2, 0, 0, LAST},
     {LENGTH, "64",
-     RUN, WORKED, ZEROS, 0, 0, 0, 0, COMPACT, 64, UPDATE, 1, 0x5A, 0x5A},
+     RUN, WORKED, ZEROS, 0, 0, 0, 0, COMPACT, 64, UPDATE, 1, 0x5A, 0x5A, LAST},
     {LENGTH, "256",
-     RUN, WORKED, ZEROS, 0, 0, 0, 0, COMPACT, 256, UPDATE, 1, 0x5A, 0x5A},
+     RUN, WORKED, ZEROS, 0, 0, 0, 0, COMPACT, 256, UPDATE, 1, 0x5A, 0x5A, LAST},
     {LENGTH, "1024",
-     RUN, WORKED, ZEROS, 0, 0, 0, 0, COMPACT, 1024, UPDATE, 1, 0x5A, 0x5A},
+     RUN, WORKED, ZEROS, 0, 0, 0, 0, COMPACT, 1024, UPDATE, 1, 0x5A, 0x5A, LAST},
+    {CRAFTED, "SEARCH for 121 bytes, each place but for a byte in the middle",
+     RUN, 64, ZEROS, 2036, 15, 1, 0, COMPACT, 1024, SEARCH, 121, 0x00, 0x01, MIDDLE},
 };
 
 enum { ROWS = sizeof rows / sizeof rows[0], SIDES = sizeof sides / sizeof sides[0] };
@@ -257,9 +262,10 @@ static void add_commands(struct call *call, const struct row *row, size_t end)
     while (call->script.length < end) {
         const size_t left = end - call->script.length;
         const size_t lc = left < 2 * (head + row->lc) ? left - head : row->lc;
-        data[lc - 1] = row->last;
+        const size_t odd = row->place == LAST ? lc - 1 : lc / 2;
+        data[odd] = row->odd;
         add_command(call, row->ins, row->ins == SEARCH, row->ins == SEARCH ? 0x04 : 0x00, data, lc);
-        data[lc - 1] = row->fill;
+        data[odd] = row->fill;
     }
 }
 
