@@ -48,7 +48,6 @@ struct row {
 #define CALL "call"
 #define ENTRIES "one command, by entries"
 #define LENGTH "UPDATE of 1 byte on the worked card, by script length"
-#define CRAFTED "crafted, not in the ratio"
 
 static const struct row rows[] = {
     {CALL, "run, refused with 2, journal empty",
@@ -71,6 +70,8 @@ static const struct row rows[] = {
      RUN, 64, MIXED, 2036, 15, 1, 0, COMPACT, 1024, SEARCH, 58, 0x25, 0x80, LAST},
     {CALL, "SEARCH for 121 bytes, each place but for the last byte",
      RUN, 64, ZEROS, 2036, 15, 1, 0, COMPACT, 1024, SEARCH, 121, 0x00, 0x01, LAST},
+    {CALL, "SEARCH for 121 bytes, each place but for a byte in the middle",
+     RUN, 64, ZEROS, 2036, 15, 1, 0, COMPACT, 1024, SEARCH, 121, 0x00, 0x01, MIDDLE},
     {CALL, "SEARCH for 1 byte, found first in each record",
      RUN, 64, ZEROS, 2036, 15, 1, 0, COMPACT, 1024, SEARCH, 1, 0x00, 0x00, LAST},
     {CALL, "INCREASE by 121 bytes",
@@ -97,8 +98,6 @@ static const struct row rows[] = {
      RUN, WORKED, ZEROS, 0, 0, 0, 0, COMPACT, 256, UPDATE, 1, 0x5A, 0x5A, LAST},
     {LENGTH, "1024",
      RUN, WORKED, ZEROS, 0, 0, 0, 0, COMPACT, 1024, UPDATE, 1, 0x5A, 0x5A, LAST},
-    {CRAFTED, "SEARCH for 121 bytes, each place but for a byte in the middle",
-     RUN, 64, ZEROS, 2036, 15, 1, 0, COMPACT, 1024, SEARCH, 121, 0x00, 0x01, MIDDLE},
 };
 
 enum { ROWS = sizeof rows / sizeof rows[0], SIDES = sizeof sides / sizeof sides[0] };
