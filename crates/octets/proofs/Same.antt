@@ -2,16 +2,17 @@
 use mathlib.Core.Path.{_≡_, refl, sym, ap, _∙_}
 use mathlib.Core.Bool.{Bool, true, false, _&&_, and-false, false≢true, and-assoc, and-true}
 use mathlib.Core.List.{List, [], _∷_, _++_}
-use Prim.Native.Nat.{ℕ, zero, suc, _+_, _≤_, _<_}
-use native.Mathlib.Nat.{le-of-suc-le-suc, not-suc-le-zero}
+use Prim.Native.Nat.{ℕ, zero, suc, _+_, _-_, _≤_, _<_}
+use native.Mathlib.Nat.{add-assoc, add-zero, zero-add, add-sub-of-le, le-of-suc-le-suc, not-suc-le-zero}
 use native.Mathlib.Numerals.{add-one}
 use native.Mathlib.Omega.{arith}
 use lib.Dec.{eqb}
-use lib.ListN.{length, take, drop, drop-of-length-le}
-use lib.Seq.{drop-cons, drop-drop}
+use lib.ListN.{length, take, drop, drop-of-length-le, length-drop, take-append-drop}
+use lib.Seq.{drop-cons, drop-drop, take-all}
 use borrow.Author.Tests.{eqb-true, eq-eqb}
-use Rattle.octets.specs.Bytes.{byte, zeros, allZero, same, startsWith, contains}
+use Rattle.octets.specs.Bytes.{byte, part, zeros, allZero, same, startsWith, contains}
 use Rattle.octets.proofs.Picks.{and-left, and-right, and-both}
+use Rattle.octets.proofs.Writes.{part-length}
 use Rattle.octets.proofs.Numbers.{byte-part}
 
 pub same-true : (a b : List ℕ) → same a b ≡ true → a ≡ b
@@ -66,6 +67,49 @@ module _ {t : Bool} (found : Bool) (m d : List ℕ) (j i : ℕ) (left : t ≡ (f
   pub starts-ends : length d ≤ i → found ≡ t
   unfolding startsWith
   starts-ends h = sym (left ∙ (rw (drop-of-length-le d h) (and-true found)))
+
+pub part-more : {t : Bool} (found : Bool) (m d : List ℕ) (at from n i : ℕ) → t ≡ (found && startsWith (drop (at + i) m) (drop i (part d from n))) → at + i < length m → i < n → from + n ≤ length d
+    → t ≡ ((found && eqb (byte m (at + i)) (byte d (from + i))) && startsWith (drop (at + (i + 1)) m) (drop (i + 1) (part d from n)))
+part-more found m d at from n i left h g fits =
+    starts-more found m (part d from n) (at + i) i left h (omega (arith, part-length d from n fits)) ∙ rw (byte-part d from n i g, add-assoc at i 1)
+
+-- a run in two pieces stands where each of them does
+starts-split : (m a b : List ℕ) → startsWith m (a ++ b) ≡ (startsWith m a && startsWith (drop (length a) m) b)
+unfolding startsWith
+starts-split m [] b = refl
+starts-split [] (y ∷ a) b = refl
+starts-split (x ∷ m) (y ∷ a) b = ap (λ (t : Bool). eqb x y && t) (starts-split m a b) ∙ sym (and-assoc (eqb x y) (startsWith m a) (startsWith (drop (length a) m) b))
+
+starts-piece : (m d : List ℕ) (at i n : ℕ) → i + n ≤ length d → startsWith (drop (at + i) m) (drop i d) ≡ (startsWith (drop (at + i) m) (part d i n) && startsWith (drop (at + (i + n)) m) (drop (i + n) d))
+starts-piece m d at i n h =
+    ap (startsWith (drop (at + i) m)) (sym (take-append-drop n (drop i d)))
+    ∙ starts-split (drop (at + i) m) (part d i n) (drop n (drop i d))
+    ∙ rw (part-length d i n h, drop-drop n (at + i) m, drop-drop n i d, add-assoc at i n)
+
+-- the same piece by piece: the n bytes of the run from place i on, and at last those that end it
+module _ (m d : List ℕ) (at i n : ℕ) (left : startsWith (drop at m) d ≡ startsWith (drop (at + i) m) (drop i d)) where
+  pub piece-differs : i + n ≤ length d → startsWith (drop (at + i) m) (part d i n) ≡ false → false ≡ startsWith (drop at m) d
+  piece-differs h e = sym (left ∙ starts-piece m d at i n h ∙ rw e)
+
+  pub piece-same : i + n ≤ length d → startsWith (drop (at + i) m) (part d i n) ≡ true → startsWith (drop at m) d ≡ startsWith (drop (at + (i + n)) m) (drop (i + n) d)
+  piece-same h e = left ∙ starts-piece m d at i n h ∙ rw e
+
+  pub piece-last : (last : ℕ) → last + n ≡ length d → last ≤ i → i ≤ length d → startsWith (drop (at + last) m) (part d last n) ≡ startsWith (drop at m) d
+  piece-last last e h g =
+      between
+      (startsWith (drop at m) d)
+      (startsWith (drop at m) (take last d))
+      (startsWith (drop (at + last) m) (part d last n))
+      (startsWith (drop (at + last) m) (part d last (i - last)))
+      (ap (λ (k : ℕ). startsWith (drop k m) d) (sym (add-zero at)) ∙ starts-piece m d at 0 last (omega arith) ∙ rw (zero-add last, add-zero at, ends))
+      (rw ends (starts-piece m d at last (i - last) (omega arith) ∙ rw (add-sub-of-le h, ← left)))
+    where
+      ends : part d last n ≡ drop last d
+      ends = take-all n (drop last d) (simp length-drop (omega arith))
+
+      between : (t x b y : Bool) → t ≡ (x && b) → b ≡ (y && t) → b ≡ t
+      between t x false y p q = sym (p ∙ and-false x)
+      between t x true y p q = sym (and-right y t (sym q))
 
 -- a run that begins with another has its bytes first, and every run begins with a front of it
 pub starts-true : (m d : List ℕ) → startsWith m d ≡ true → take (length d) m ≡ d

@@ -93,21 +93,37 @@ pub fn all_zero(m: &[u8]) -> bool
     zero
 }
 
-// Whether each byte of a run stands from a place on.
-fn same_at(m: &[u8], at: usize, d: &[u8]) -> bool
-    requires { ⌜ at + length (now d) ≤ length (now m) ⌝ }
-    ensures { λ r. ⌜ r ≡ startsWith (drop at (now (m .entry))) (now (d .entry)) ⌝ }
+// Whether n bytes of a run, from one of its places on, stand at a place of the memory; all of them are compared.
+fn same_part(m: &[u8], at: usize, d: &[u8], from: usize, n: usize) -> bool
+    requires { ⌜ (at + n ≤ length (now m)) × (from + n ≤ length (now d)) ⌝ }
+    ensures { λ r. ⌜ r ≡ startsWith (drop at (now (m .entry))) (part (now (d .entry)) from n) ⌝ }
 {
     let mut same = true;
     let mut i: usize = 0;
-    while i < d.len() {
-        same = same & (m[at + i] == d[i]);
+    while i < n {
+        same = same & (m[at + i] == d[from + i]);
         i += 1;
     }
     same
 }
 
-// Whether the bytes from a place on begin with a run of bytes: most often the first byte tells, or the last.
+// Whether the bytes from a place on begin with a run of bytes, compared some bytes at a time; the last of them end the run.
+fn starts_by(m: &[u8], at: usize, d: &[u8], width: usize) -> bool
+    requires { ⌜ (at + length (now d) ≤ length (now m)) × ((0 < width) × (width ≤ length (now d))) ⌝ }
+    ensures { λ r. ⌜ r ≡ startsWith (drop at (now (m .entry))) (now (d .entry)) ⌝ }
+{
+    let last = d.len() - width;
+    let mut i: usize = 0;
+    while i < last {
+        if !same_part(m, at + i, d, i, width) {
+            return false;
+        }
+        i += width;
+    }
+    same_part(m, at + last, d, last, width)
+}
+
+// Whether the bytes from a place on begin with a run of bytes: most often the first byte tells.
 pub fn starts_at(m: &[u8], at: usize, d: &[u8]) -> bool
     requires { ⌜ at + length (now d) ≤ length (now m) ⌝ }
     ensures { λ r. ⌜ r ≡ startsWith (drop at (now (m .entry))) (now (d .entry)) ⌝ }
@@ -118,11 +134,16 @@ pub fn starts_at(m: &[u8], at: usize, d: &[u8]) -> bool
     if m[at] != d[0] {
         return false;
     }
-    let last = d.len() - 1;
-    if m[at + last] != d[last] {
-        return false;
+    if d.len() >= 32 {
+        return starts_by(m, at, d, 32);
     }
-    same_at(m, at, d)
+    if d.len() >= 8 {
+        return starts_by(m, at, d, 8);
+    }
+    if d.len() >= 4 {
+        return starts_by(m, at, d, 4);
+    }
+    starts_by(m, at, d, 1)
 }
 
 // Whether a run of bytes stands somewhere in the memory, in one piece; it is compared where it lies.

@@ -1,4 +1,4 @@
--- `octets::starts_at` meets its contract: another first or last byte tells, and else all are compared. Assumes nothing.
+-- `octets::starts_at` meets its contract: another first byte tells, and else all are compared. Assumes nothing.
 use mathlib.Core.Path.{sym, ap, _∙_}
 use native.Mathlib.Nat.{add-zero}
 use native.Mathlib.Omega.{arith}
@@ -22,28 +22,29 @@ returns-2 c =
     let a = c .before .before .before .before .before .before .args in
     starts-differs (a .m .now) (a .d .now) (a .at) 0 (omega arith) (λ e. c .if2 .taken (ap (byte (a .m .now)) (sym (add-zero (a .at))) ∙ e))
 
-sub-last : tie.Need-sub-last
-sub-last c = search needs
-
-add-if3 : tie.Need-add-if3
-add-if3 c = search needs
-
-shared-slice-read-if3 : tie.Need-shared-slice-read-if3
-shared-slice-read-if3 c = search needs
-
-shared-slice-read-if3-2 : tie.Need-shared-slice-read-if3-2
-shared-slice-read-if3-2 c = search needs
+starts-by-requires : tie.Need-starts-by-requires
+starts-by-requires c κs = search needs
 
 returns-3 : tie.Need-returns-3
-returns-3 c =
-    let a = c .before .before .before .before .before .before .before .before .before .args in
-    starts-differs (a .m .now) (a .d .now) (a .at) _ (omega arith) (c .if3 .taken)
+returns-3 c = search needs
 
-same-at-requires : tie.Need-same-at-requires
-same-at-requires c κs = search needs
+starts-by-requires-2 : tie.Need-starts-by-requires-2
+starts-by-requires-2 c κs = search needs
 
 returns-4 : tie.Need-returns-4
 returns-4 c = search needs
+
+starts-by-requires-3 : tie.Need-starts-by-requires-3
+starts-by-requires-3 c κs = search needs
+
+returns-5 : tie.Need-returns-5
+returns-5 c = search needs
+
+starts-by-requires-4 : tie.Need-starts-by-requires-4
+starts-by-requires-4 c κs = search needs
+
+returns-6 : tie.Need-returns-6
+returns-6 c = search needs
 
 pub starts-at-spec : {M : Type 1} → statement M
 starts-at-spec =
@@ -53,10 +54,11 @@ starts-at-spec =
     shared-slice-read-if2
     shared-slice-read-if2-2
     returns-2
-    sub-last
-    add-if3
-    shared-slice-read-if3
-    shared-slice-read-if3-2
+    starts-by-requires
     returns-3
-    same-at-requires
-    returns-4)
+    starts-by-requires-2
+    returns-4
+    starts-by-requires-3
+    returns-5
+    starts-by-requires-4
+    returns-6)
