@@ -46,7 +46,7 @@ pub fn push_mark(journal: &mut [u8], used: usize, scripts: u8)
     close(journal, used, scripts, MARKS_START as u8, 0, 0);
 }
 
-// Bytes are written into a file, with its start and size, at an offset in it: the journal gets the old bytes, then the file the new ones.
+// Bytes are written into a file, with its start and size, at an offset in it: the journal gets the old bytes whole, with tail and head, before the file gets the new ones.
 pub fn write_file(
     files: &mut [u8],
     journal: &mut [u8],
@@ -61,24 +61,20 @@ pub fn write_file(
     ensures { λ _. ⌜ (now (files .exit) ≡ overwrite (now (files .entry)) (start + offset) (now (new .entry)))
         × (now (journal .exit) ≡ pushedAt (now (journal .entry)) used scripts (entryOf holdsFileBytes (start + offset) (part (now (files .entry)) (start + offset) (length (now (new .entry)))))) ⌝ }
 {
-    octets::exchange(
-        journal,
-        HEAD_SIZE + used,
-        &mut files[start..start + size],
-        offset,
-        new,
-    );
+    let place = start + offset;
+    octets::copy(journal, HEAD_SIZE + used, &files[place..place + new.len()]);
     close(
         journal,
         used,
         scripts,
         HOLDS_FILE_BYTES as u8,
-        start + offset,
+        place,
         new.len(),
     );
+    octets::copy(&mut files[start..start + size], offset, new);
 }
 
-// A byte of the table is written: the journal gets the old byte, then the table the new one.
+// A byte of the table is written: the journal gets the old byte, with tail and head, before the table gets the new one.
 pub fn write_table(
     table: &mut [u8],
     journal: &mut [u8],
@@ -91,7 +87,7 @@ pub fn write_table(
     ensures { λ _. ⌜ (now (table .exit) ≡ overwrite (now (table .entry)) place (new ∷ []))
         × (now (journal .exit) ≡ pushedAt (now (journal .entry)) used scripts (entryOf holdsTableByte place (part (now (table .entry)) place 1))) ⌝ }
 {
-    journal[HEAD_SIZE + used] = table[place];
-    table[place] = new;
+    octets::copy(journal, HEAD_SIZE + used, &table[place..place + 1]);
     close(journal, used, scripts, HOLDS_TABLE_BYTE as u8, place, 1);
+    octets::fill(table, place, 1, new);
 }

@@ -43,20 +43,6 @@ pub fn copy(m: &mut [u8], at: usize, d: &[u8])
     }
 }
 
-// A run of bytes is put at an offset of a file, and what stood there goes to a place of the memory.
-pub fn exchange(m: &mut [u8], at: usize, file: &mut [u8], offset: usize, d: &[u8])
-    requires { ⌜ (at + length (now d) ≤ length (now m)) × (offset + length (now d) ≤ length (now file)) ⌝ }
-    ensures { λ _. ⌜ (now (m .exit) ≡ overwrite (now (m .entry)) at (part (now (file .entry)) offset (length (now (d .entry)))))
-        × (now (file .exit) ≡ overwrite (now (file .entry)) offset (now (d .entry))) ⌝ }
-{
-    let mut i: usize = 0;
-    while i < d.len() {
-        m[at + i] = file[offset + i];
-        file[offset + i] = d[i];
-        i += 1;
-    }
-}
-
 // A run of n bytes from a place on is filled with one byte.
 pub fn fill(m: &mut [u8], at: usize, n: usize, b: u8)
     requires { ⌜ at + n ≤ length (now m) ⌝ }
