@@ -66,12 +66,18 @@ pub record Narrow (r : Row) : Type 0 where
   pub thirteen : r .thirteen < 65536
   pub fifteen : r .fifteen < 256
 
--- the places in the table of an entry's byte 9, the newest record, and of its byte 10, the state
+-- the bytes of an entry that a command writes, "place (from 0) of the newest record" and the state, and their places in the table
+abbrev pub newestByte : ℕ
+newestByte = 9
+
+abbrev pub stateByte : ℕ
+stateByte = 10
+
 abbrev pub placeOfNewest : ℕ → ℕ
-placeOfNewest e = entrySize * e + 9
+placeOfNewest e = entrySize * e + newestByte
 
 abbrev pub placeOfState : ℕ → ℕ
-placeOfState e = entrySize * e + 10
+placeOfState e = entrySize * e + stateByte
 
 -- "kind: 1 MF, 2 DF, 3 ADF, 4 transparent, 5 linear fixed, 6 cyclic"
 abbrev pub isMF : Row → Bool

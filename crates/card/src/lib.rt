@@ -25,6 +25,11 @@ pub const LINEAR: usize = 5;
 
 pub const CYCLIC: usize = 6;
 
+// The bytes of an entry that a command writes: the place of the newest record, and the state.
+pub const NEWEST_BYTE: usize = 9;
+
+pub const STATE_BYTE: usize = 10;
+
 // "05 activated, 04 deactivated"
 pub const ACTIVATED: usize = 5;
 

@@ -8,7 +8,7 @@ use lib.Dec.{leb, eqb}
 use lib.ListN.{length}
 use borrow.Author.Tests.{leb-true}
 use Rattle.octets.proofs.Picks.{and-left, and-right}
-use Rattle.lines.specs.Digits.{allHex, decoded}
+use Rattle.lines.specs.Digits.{allHex, mostDigits, isScript, decoded}
 use Rattle.lines.proofs.Signs.{bytes-length}
 use Rattle.cases.specs.Cases.{hexBytes, isCase}
 
@@ -16,11 +16,13 @@ use Rattle.cases.specs.Cases.{hexBytes, isCase}
 module _ (n : ℕ) (ds : List ℕ) (digits : hexBytes n ds ≡ true) where
   pub digits-few : length ds ≤ 2 * n
   unfolding hexBytes
-  digits-few = leb-true (length ds) (2 * n) (and-left (leb (length ds) (2 * n)) (eqb (length ds % 2) 0 && allHex ds) digits)
+  digits-few = leb-true (length ds) (2 * n) (and-left (leb (length ds) (2 * n)) (isScript ds) digits)
 
   pub digits-hex : allHex ds ≡ true
-  unfolding hexBytes
-  digits-hex = and-right (eqb (length ds % 2) 0) (allHex ds) (and-right (leb (length ds) (2 * n)) (eqb (length ds % 2) 0 && allHex ds) digits)
+  unfolding hexBytes isScript
+  digits-hex =
+      and-right (eqb (length ds % 2) 0) (allHex ds)
+      (and-right (leb (length ds) mostDigits) (eqb (length ds % 2) 0 && allHex ds) (and-right (leb (length ds) (2 * n)) (isScript ds) digits))
 
   pub digits-bytes : length (decoded ds) ≤ n
   digits-bytes = omega (arith, bytes-length ds, digits-few)

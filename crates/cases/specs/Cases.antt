@@ -1,21 +1,21 @@
 -- What the program prints of a case: a label, the arguments of a run on the worked card, the first bytes of the journal and the
 -- script, both in hex digits.
-use Prim.Native.Nat.{ℕ, _+_, _*_, _%_}
+use Prim.Native.Nat.{ℕ, _+_, _*_}
 use mathlib.Core.Bool.{Bool, _&&_}
 use mathlib.Core.List.{List, _++_}
-use lib.Dec.{leb, eqb}
+use lib.Dec.{leb}
 use lib.ListN.{length, take}
 use Rattle.octets.specs.Bytes.{overwrite, zeros}
 use Rattle.journal.specs.Entries.{usedBytes}
 use Rattle.journal.specs.Changes.{withJournal}
 use Rattle.engine.specs.Calls.{Result, run}
 use Rattle.engine.specs.Worked.{worked, answerOf}
-use Rattle.lines.specs.Digits.{ascii, allHex, decoded, hexOf, decimal}
+use Rattle.lines.specs.Digits.{ascii, isScript, decoded, hexOf, decimal}
 use Rattle.lines.specs.Named.{lineFeed, space, named}
 
 -- whether they are the hex digits of at most n bytes
 unfoldable pub hexBytes : ℕ → List ℕ → Bool
-hexBytes n ds = leb (length ds) (2 * n) && (eqb (length ds % 2) 0 && allHex ds)
+hexBytes n ds = leb (length ds) (2 * n) && isScript ds
 
 -- whether label, journal and script are short enough, and the last two of hex digits
 unfoldable pub isCase : List ℕ → List ℕ → List ℕ → Bool

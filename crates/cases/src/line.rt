@@ -1,5 +1,6 @@
 // The line of a case.
 use lines::digits::decode;
+use lines::digits::is_script;
 use lines::put::put_bytes;
 use lines::put::put_number;
 use lines::worked::worked_files;
@@ -11,6 +12,21 @@ ghost use lib.ListN.{length};
 ghost use Rattle.octets.specs.Bytes.{overwrite};
 ghost use Rattle.journal.specs.Entries.{usedBytes};
 ghost use Rattle.cases.specs.Cases as spec;
+
+// Whether they are the hex digits of at most n bytes.
+fn hex_bytes(n: usize, digits: &[u8]) -> bool
+    requires { ⌜ n ≤ 2048 ⌝ }
+    ensures { λ b. ⌜ b ≡ spec.hexBytes n (now (digits .entry)) ⌝ }
+{
+    (digits.len() <= 2 * n) & is_script(digits)
+}
+
+// Whether label, journal and script have the shape of a case.
+pub fn is_case(label: &[u8], journal: &[u8], script: &[u8]) -> bool
+    ensures { λ b. ⌜ b ≡ spec.isCase (now (label .entry)) (now (journal .entry)) (now (script .entry)) ⌝ }
+{
+    (label.len() <= 64) & (hex_bytes(2048, journal) & hex_bytes(1024, script))
+}
 
 // Puts a label and four values at the start of `out`, and gives the number of bytes.
 fn put_labelled(

@@ -277,7 +277,7 @@ pub fn items() {
 // The sizes of the commands in an expanded script.
 pub fn sizes() {
     // Decision 42: size 6 with Lc 00 and Le 00 is case 4; another Le makes a bad size.
-    show(b"Lc 00 and Le 00", 0, 0x00, 1, b"", b"AA08220600A400040000");
+    show(b"Lc 00 and Le 00", 0, 0x00, 1, b"", b"AA082206002000010000");
     show(
         b"case 4, another Le",
         0,

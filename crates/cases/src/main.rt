@@ -2,17 +2,15 @@
 mod line;
 mod list;
 
-ghost use mathlib.Core.Path.{_≡_};
-ghost use mathlib.Core.Bool.{true};
-ghost use Rattle.cases.specs.Cases.{isCase};
-
 // The bytes that a line has at most.
 const MOST_IN_LINE: usize = 6288;
 
-// Prints the line of a case.
-fn show(label: &[u8], application: usize, domain: u8, format: u8, journal: &[u8], script: &[u8])
-    requires { ⌜ isCase (now label) (now journal) (now script) ≡ true ⌝ }
-{
+// Prints the line of a case, or that it has not the shape of one.
+fn show(label: &[u8], application: usize, domain: u8, format: u8, journal: &[u8], script: &[u8]) {
+    if !line::is_case(label, journal, script) {
+        io::write_all(libc::STDOUT_FILENO, b"case=bad\n");
+        return;
+    }
     let mut out = [0u8; MOST_IN_LINE];
     let n = line::put_case(
         &mut out,

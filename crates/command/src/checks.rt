@@ -8,6 +8,7 @@ use crate::instruction::SEARCH;
 use crate::instruction::SELECT;
 use crate::instruction::UPDATE_BINARY;
 use crate::instruction::UPDATE_RECORD;
+use crate::instruction::WITH_FCP;
 use crate::instruction::carries_data;
 use crate::instruction::case_of;
 use crate::instruction::class_of;
@@ -22,6 +23,8 @@ use crate::records::MODE_NEXT;
 use crate::records::MODE_PREVIOUS;
 use crate::records::has_record;
 use crate::records::record_of;
+use crate::search::SEARCH_BACKWARD;
+use crate::search::SEARCH_FORWARD;
 use card::Row;
 ghost use mathlib.Core.Path.{_≡_};
 ghost use mathlib.Core.Bool.{true};
@@ -47,13 +50,14 @@ fn parameters_fit(i: usize, p1: usize, p2: usize) -> bool
     ensures { λ b. ⌜ b ≡ spec.parametersFit i p1 p2 ⌝ }
 {
     if i == SELECT {
-        return ((p1 == 0x00) | ((p1 == 0x08) | (p1 == 0x09))) & ((p2 == NO_DATA) | (p2 == 0x04));
+        return ((p1 == 0x00) | ((p1 == 0x08) | (p1 == 0x09)))
+            & ((p2 == NO_DATA) | (p2 == WITH_FCP));
     }
     if is_binary(i) {
         return p1 <= 0x7F;
     }
     if i == SEARCH {
-        return (p2 == 4) | (p2 == 5);
+        return (p2 == SEARCH_FORWARD) | (p2 == SEARCH_BACKWARD);
     }
     if is_record(i) {
         return (p2 == MODE_ABSOLUTE) | (((p2 == MODE_NEXT) | (p2 == MODE_PREVIOUS)) & (p1 == 0x00));

@@ -23,8 +23,10 @@ pub const ACTIVATE: usize = 0x44;
 
 pub const GET_RESPONSE: usize = 0xC0;
 
-// The P2 of a SELECT with no data.
+// "P2 0C no data, 04 FCP."
 pub const NO_DATA: usize = 0x0C;
+
+pub const WITH_FCP: usize = 0x04;
 
 // Whether an instruction carries data.
 pub fn carries_data(i: usize) -> bool

@@ -10,7 +10,9 @@ ghost use Rattle.card.specs.Sound.{recordCount};
 ghost use Rattle.command.specs.Files as spec;
 
 // "A2 SEARCH, P2 04 from record P1 .. to the last, 05 back to the first"
-const SEARCH_FORWARD: usize = 4;
+pub const SEARCH_FORWARD: usize = 4;
+
+pub const SEARCH_BACKWARD: usize = 5;
 
 // Whether a record of a file contains the data.
 fn record_contains(files: &[u8], r: Row, number: usize, data: &[u8]) -> bool

@@ -8,6 +8,7 @@ use Rattle.octets.specs.Choice.{pick}
 use Rattle.octets.specs.Bytes.{byte, bytes2, part}
 use Rattle.card.specs.Row.{Card}
 use Rattle.command.specs.declared.Format.the-variants.{Compact}
+use Rattle.command.specs.declared.Command.{Command}
 use Rattle.command.specs.declared.Reading.{Reading}
 use Rattle.command.specs.declared.Step.{Step}
 use Rattle.command.specs.Instructions.{carriesData, caseOf}
@@ -88,14 +89,15 @@ pub record ReadingFits (script : List ℕ) (at : ℕ) (r : Reading) : Type 0 whe
   pub p3 : r .command .p3 < 256
   pub brief : r .count < 256
 
+-- a script's state after a command with its data: from the session and on the card that the ones before have left
+abbrev pub stepWith : ℕ → Command → List ℕ → State → State
+stepWith domain c «data» st =
+    stepped st
+    (carriedOut (planned (situation Compact domain c «data» (st .step .session) (st .card))) (st .waiting) (st .card))
+
 -- a script's state after a command that was read
 unfoldable pub stepRead : List ℕ → ℕ → Reading → State → State
-stepRead script domain r st =
-    stepped st
-    (carriedOut
-    (planned (situation Compact domain (r .command) (part script (r .from) (r .count)) (st .step .session) (st .card)))
-    (st .waiting)
-    (st .card))
+stepRead script domain r st = stepWith domain (r .command) (part script (r .from) (r .count)) st
 
 -- a script's state after the command that stands at a place
 abbrev pub stepAt : List ℕ → ℕ → ℕ → State → State

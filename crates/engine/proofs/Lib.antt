@@ -1,16 +1,5 @@
-pub mod Worked
-pub mod History
 pub mod Answers
 pub mod Refusals
 pub mod Accepted
 pub mod Ended
-pub mod LawsRefused
-pub mod LawsAlike
-pub mod Laws
-pub mod Demand1
-pub mod Commands
-pub mod AllRead
-pub mod Fresh
-pub mod Demand2
 pub mod Determined
-pub mod Demands

@@ -1,9 +1,4 @@
 pub mod Numbers
 pub mod Calls
-pub mod Given
-pub mod Commands
 pub mod Hex
 pub mod Worked
-pub mod Demand1
-pub mod Demand2
-pub mod Demand3

@@ -14,10 +14,6 @@ const LONGEST_SCRIPT: usize = 1024;
 
 const LEAST_RESPONSE: usize = 1024;
 
-const MOST_SCRIPTS: usize = 16;
-
-const MARK_SIZE: usize = 8;
-
 // Whether a number is the entry number of an application's root.
 fn is_application(table: &[u8], application: usize) -> bool
     requires { ⌜ ParentsSmaller (now table) ⌝ }
@@ -51,7 +47,8 @@ fn mark_fits(journal: &[u8]) -> bool
 {
     let scripts = journal::read::scripts_on_trial(journal);
     let used = journal::read::used_bytes(journal);
-    (scripts < MOST_SCRIPTS) & (used + MARK_SIZE <= journal::read::room_of(journal))
+    (scripts < journal::MOST_SCRIPTS)
+        & (used + journal::TAIL_SIZE <= journal::read::room_of(journal))
 }
 
 // Whether a script has the template that its format asks for.

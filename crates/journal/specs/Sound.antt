@@ -7,7 +7,7 @@ use lib.Dec.{leb, ltb, eqb}
 use Rattle.octets.specs.Choice.{pick}
 use Rattle.octets.specs.Bytes.{byte, part, allZero, same}
 use Rattle.card.specs.declared.Row.{Row}
-use Rattle.card.specs.Row.{Card, entrySize, entries, rowOf, isCyclic, isFile}
+use Rattle.card.specs.Row.{Card, entrySize, entries, rowOf, newestByte, stateByte, isCyclic, isFile}
 use Rattle.card.specs.Sound.{newestSound, stateSound, soundTable}
 use Rattle.journal.specs.Entries.{Entry, headSize, head, usedBytes, scriptsOnTrial, room, marksStart, holdsFileBytes, holdsTableByte, isMark, entriesOf}
 
@@ -33,7 +33,7 @@ headSound j =
 -- "kind 3 one table byte, which is byte 10 of a file, or byte 9 of a cyclic file, with an old value sound there"
 unfoldable pub tableByteSound : Row → ℕ → ℕ → Bool
 tableByteSound r at old =
-    pick (eqb at 10) (isFile r && stateSound old) (eqb at 9 && (isCyclic r && newestSound r old))
+    pick (eqb at stateByte) (isFile r && stateSound old) (eqb at newestByte && (isCyclic r && newestSound r old))
 
 -- a place of the table: "Places lie inside their memory."
 unfoldable pub tablePlaceSound : List ℕ → ℕ → ℕ → Bool

@@ -28,10 +28,10 @@ const MOST_OLD_BYTES: usize = 255;
 fn table_byte_sound(r: Row, at: usize, old: usize) -> bool
     ensures { λ b. ⌜ b ≡ tableByteSound r at old ⌝ }
 {
-    if at == 10 {
+    if at == card::STATE_BYTE {
         return card::rules::is_file(r) & card::rules::state_sound(old);
     }
-    (at == 9) & ((r.kind == card::CYCLIC) & card::rules::newest_sound(r, old))
+    (at == card::NEWEST_BYTE) & ((r.kind == card::CYCLIC) & card::rules::newest_sound(r, old))
 }
 
 // A table byte at a place of the table, with its old value.

@@ -12,7 +12,7 @@ use lib.Dec.{ltb}
 use borrow.Author.Tests.{lt-ltb, le-ltb}
 use Rattle.octets.specs.Bytes.{part, value, bytesOf, overwrite}
 use Rattle.octets.proofs.Picks.{pick-true, pick-false}
-use Rattle.octets.proofs.Writes.{part-length, part-part, write-two}
+use Rattle.octets.proofs.Writes.{part-lent, part-length, part-part, write-two}
 use Rattle.octets.proofs.Numbers.{bytesOf-length}
 use Rattle.card.specs.declared.Row.{Row}
 use Rattle.card.specs.Records.{recordOffset}
@@ -36,12 +36,9 @@ module _ (n m : ℕ) where
 abbrev pub first : List ℕ → Row → ℕ → List ℕ
 first files r off = part files (r .start + off) (r .start + off + r .«record» - (r .start + off))
 
-lent-size : (start off size : ℕ) → start + off + size - (start + off) ≡ size
-lent-size start off size = omega arith
-
 first-length : (files : List ℕ) (r : Row) (off : ℕ) → off + r .«record» ≤ r .size → r .start + r .size ≤ length files → length (first files r off) ≡ r .«record»
 first-length files r off inside lies =
-    rw (lent-size (r .start) off (r .«record»)) (part-length files (r .start + off) (r .«record») (omega arith))
+    rw (part-lent files (r .start + off) (r .«record»)) (part-length files (r .start + off) (r .«record») (omega arith))
 
 -- the file that INCREASE works on
 pub record Raised (files : List ℕ) (s : Session) (r : Row) (off : ℕ) (f : File) : Type 0 where
@@ -59,7 +56,7 @@ module _ {files : List ℕ} {s : Session} {r : Row} {off : ℕ} {f : File} (h : 
   first-sum : added ≡ sum (f .row) (f .content) «data»
   unfolding sum recordBytes
   first-sum =
-      rw (h .row, h .content, ← (h .at), lent-size (r .start) off (r .«record»), part-part files (r .start) (r .size) off (r .«record») (h .inside))
+      rw (h .row, h .content, ← (h .at), part-lent files (r .start + off) (r .«record»), part-part files (r .start) (r .size) off (r .«record») (h .inside))
 
   width : length (first files r off) ≡ f .row .«record»
   width = first-length files r off (h .inside) (h .lies) ∙ ap (λ (q : Row). q .«record») (sym (h .row))

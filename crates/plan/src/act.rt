@@ -38,7 +38,7 @@ fn write_record(table: &mut [u8], files: &mut [u8], journal: &mut [u8], r: NewRe
         journal,
         used + (8 + new.len()),
         scripts,
-        card::ENTRY_SIZE * r.entry + 9,
+        card::ENTRY_SIZE * r.entry + card::NEWEST_BYTE,
         place as u8,
     );
 }

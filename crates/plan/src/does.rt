@@ -210,6 +210,9 @@ pub fn switch(state: usize, s: Session) -> Decision
     done(
         s,
         0x9000,
-        Change::TableByte(card::ENTRY_SIZE * (s.file as usize) + 10, state),
+        Change::TableByte(
+            card::ENTRY_SIZE * (s.file as usize) + card::STATE_BYTE,
+            state,
+        ),
     )
 }

@@ -25,7 +25,7 @@ use Rattle.plan.specs.declared.Change.the-variants.{Nothing}
 use Rattle.plan.specs.Decisions.{planOf}
 use Rattle.plan.proofs.Inside.{none-fits}
 use Rattle.step.specs.Limits.{rapduSize, mostKept, limited}
-use Rattle.step.specs.Decisions.{Ready, Decided}
+use Rattle.decide.specs.Decisions.{Ready, Decided}
 
 -- whether the R-APDU of a command with n data bytes counts and would pass the 1,000 bytes
 abbrev pub passes : ℕ → Bool → ℕ → Bool

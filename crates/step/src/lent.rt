@@ -12,7 +12,7 @@ ghost use Rattle.card.specs.Row.{lent};
 ghost use Rattle.command.specs.Commands.{stateOf, situation, planned, carriedOut, stepped};
 ghost use Rattle.plan.specs.Decisions.{movedTo};
 ghost use Rattle.step.specs.Limits as limits;
-ghost use Rattle.step.specs.Decisions.{Ready};
+ghost use Rattle.decide.specs.Decisions.{Ready};
 
 // How a command ended, and how many there were with it.
 pub struct Ended {

@@ -1,5 +1,4 @@
 // One command on a card: decided first, with nothing of the card lent to be written, and then done.
-pub mod decide;
 pub mod lent;
 pub mod limit;
 
@@ -17,7 +16,7 @@ ghost use Rattle.card.specs.Row.{lent};
 ghost use Rattle.command.specs.Commands.{situation, planned, carriedOut};
 ghost use Rattle.plan.specs.Decisions.{movedTo};
 ghost use Rattle.step.specs.Limits as limits;
-ghost use Rattle.step.specs.Decisions.{Ready};
+ghost use Rattle.decide.specs.Decisions.{Ready};
 
 // One command on a card, with its data, in a session and after `count` others, where so many bytes of R-APDUs are kept and this one
 // counts or not: the script's step after it. What it makes stands in lent bytes until it is done.

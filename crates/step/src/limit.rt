@@ -10,7 +10,7 @@ ghost use Prim.Native.Nat.{ℕ, _+_, _≤_, _<_};
 ghost use Rattle.card.specs.Row.{Card};
 ghost use Rattle.command.specs.Outcomes.{Plan, dataCount};
 ghost use Rattle.step.specs.Limits as spec;
-ghost use Rattle.step.specs.Decisions.{Decided};
+ghost use Rattle.decide.specs.Decisions.{Decided};
 
 const MOST_KEPT: usize = 1000;
 

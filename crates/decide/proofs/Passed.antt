@@ -1,0 +1,176 @@
+-- What is known of a file command behind its checks, what a sound table and a good session give it, and what it comes to without and
+-- with the journal's room. Assumes nothing.
+use mathlib.Core.Path.{_≡_, refl, sym, _∙_}
+use mathlib.Core.Bool.{true, false, _&&_}
+use mathlib.Core.List.{List, [], _++_}
+use mathlib.Core.Logic.{⊎-elim}
+use Prim.Native.Nat.{ℕ, _+_, _≤_, _<_}
+use native.Mathlib.Nat.{eq-zero-or-pos}
+use native.Mathlib.Omega.{arith}
+use lib.ListN.{length}
+use lib.Dec.{eqb}
+use borrow.Author.Tests.{leb-true}
+use Rattle.octets.proofs.Picks.{on-pick}
+use Rattle.card.specs.declared.Row.{Row}
+use Rattle.card.specs.Row.{Card, lent, Narrow, entries, rowOf, isCyclic, hasRecords, placeOfNewest, placeOfState}
+use Rattle.card.specs.Sound.{recordCount, ownSound}
+use Rattle.card.proofs.Promises.{some-entries, few-entries, cyclic-records, file-inside, record-some, records-some, records-few, entry-own}
+use Rattle.journal.specs.Entries.{usedBytes, room}
+use Rattle.journal.proofs.Parts.{Parts, card-table, card-parts}
+use Rattle.session.specs.declared.Session.{Session}
+use Rattle.command.specs.declared.Format.{Format}
+use Rattle.command.specs.declared.Format.the-variants.{Compact}
+use Rattle.command.specs.declared.Command.{Command}
+use Rattle.command.specs.Instructions as ins
+use Rattle.command.specs.Instructions.{isRecord}
+use Rattle.command.specs.Outcomes.{failed}
+use Rattle.command.specs.Files.{Recorded, fileAt}
+use Rattle.command.specs.Plans.{Situation, offsetOf, namedBy, doneBy}
+use Rattle.command.specs.Checks.{holds, formalChecks, boundChecks, firstFailing, failWord, kindFits, offsetFits, recordFits, lengthFits}
+use Rattle.command.specs.Commands.{situation, planned}
+use Rattle.command.proofs.Order.{record-kind}
+use Rattle.command.proofs.Passed.{AllHold, kind-increased, offset-read, length-binary, length-record, length-increased, named-there}
+use Rattle.plan.specs.declared.Change.the-variants.{Nothing}
+use Rattle.plan.specs.declared.Decision.{Decision}
+use Rattle.plan.specs.Decisions.{planOf, Fits, newestOf, updateChange, summed}
+use Rattle.plan.proofs.Inside.{none-fits, record-inside, newest-fits}
+use Rattle.decide.specs.Decisions.{roomed, Able, Ready, Unroomed, Decided}
+use Rattle.decide.proofs.Plans.{check-fails, check-holds, bounds-hold, roomless-done, room-behind, roomed-inside, plain-sum}
+
+-- what is known of a file command and its file's row once the checks up to the lengths hold
+pub record Passed (files : ℕ) (c : Command) (lc : ℕ) (s : Session) (r : Row) : Type 0 where
+  pub inside : r .start + r .size ≤ files
+  pub recorded : hasRecords r ≡ true → Recorded files r
+  pub kind : kindFits (c .instruction) r ≡ true
+  pub offset : offsetFits (c .instruction) (offsetOf c) r ≡ true
+  pub «record» : recordFits c (s .number) r ≡ true
+  pub length : lengthFits (c .instruction) (offsetOf c) (c .p3) lc r ≡ true
+
+module _ {files lc : ℕ} {c : Command} {s : Session} {r : Row} (p : Passed files c lc s r) where
+  pub to-read : c .instruction ≡ ins.readBinary → offsetOf c < r .size
+  to-read e = offset-read (c .instruction) r (offsetOf c) e (p .offset)
+
+  pub to-update : c .instruction ≡ ins.updateBinary → offsetOf c + lc ≤ r .size
+  to-update e = length-binary (c .instruction) r (offsetOf c) (c .p3) lc (p .length) e
+
+  pub of-records : isRecord (c .instruction) ≡ true → Recorded files r
+  of-records h = p .recorded (record-kind (c .instruction) r h (p .kind))
+
+  pub has-named : isRecord (c .instruction) ≡ true → (eqb (c .instruction) ins.updateRecord && isCyclic r) ≡ false → (1 ≤ namedBy c (s .number) r) × (namedBy c (s .number) r ≤ recordCount r)
+  has-named h g = named-there c (s .number) r h g (p .«record»)
+
+  pub to-sum : c .instruction ≡ ins.increase → Recorded files r × (r .«record» ≤ 127) × (lc ≤ r .«record»)
+  to-sum e =
+      let k = kind-increased (c .instruction) r e (p .kind) in
+      (p .recorded (cyclic-records r (k .0)), k .1, length-increased (c .instruction) r (offsetOf c) (c .p3) lc (p .length) e)
+
+  -- DC: the change fits
+  pub update-fits : c .instruction ≡ ins.updateRecord → (t : ℕ) → placeOfNewest (s .file) < t → Fits t files lc (updateChange c s r)
+  unfolding updateChange Fits newestOf
+  update-fits e t h =
+      let has = of-records (rw e) in
+      let l = length-record (c .instruction) r (offsetOf c) (c .p3) lc (p .length) e in
+      let i = record-inside r (has .counted) (namedBy c (s .number) r) in
+      on-pick (Fits t files lc) (isCyclic r) _ _ (λ y. (newest-fits t files (s .file) r has h, l)) (λ n. (p .inside, omega arith))
+
+-- what a card that is ready has
+module _ {card : Card} {s : Session} {c : Command} {lc : ℕ} (ready : Ready card s c lc) where
+  pub able : Able (card .table) (card .files) s c lc
+  able =
+      record { table = card-table card (ready .sound); good = ready .good; p1 = ready .p1; p2 = ready .p2; brief = ready .brief }
+
+  pub journal-parts : Parts (card .table) (card .files) (card .journal)
+  journal-parts = card-parts card (ready .sound)
+
+-- what a sound table and a good session give
+module _ {t files : List ℕ} {s : Session} {c : Command} {lc : ℕ} (can : Able t files s c lc) where
+  pub file-here : s .file < entries t
+  file-here = ⊎-elim (λ z. let h = some-entries t files (can .table) in omega arith) (λ p. can .good .file p .belongs .inside) (eq-zero-or-pos (s .file))
+
+  pub file-small : s .file < 64
+  file-small = let h = few-entries t files (can .table) in let g = file-here in omega arith
+
+  pub state-inside : placeOfState (s .file) < length t
+  state-inside = let h = file-here in omega arith
+
+  module _ {r : Row} (same : r ≡ rowOf t (s .file)) where
+    own : ownSound (length files) r ≡ true
+    own = rw same (entry-own t files (can .table) (s .file) file-here)
+
+    pub records-long : hasRecords r ≡ true → 1 ≤ r .«record»
+    records-long has = record-some (length files) r own has
+
+    passed : Narrow r → (w : Situation) → w .command ≡ c → length (w .«data») ≡ lc → w .session ≡ s → w .file .row ≡ r → AllHold w boundChecks → Passed (length files) c lc s r
+    unfolding boundChecks holds
+    passed narrow w k l g f h =
+        let some : 1 ≤ s .file = rw g at (leb-true 1 (w .session .file) (h .0)) in
+        let inside = file-inside (length files) r own (rw same (can .good .file some .isFile)) in
+        record {
+          inside = inside;
+          recorded = λ has.
+              let m = records-few (length files) r own has in
+              record {
+                narrow = narrow;
+                least = records-long has;
+                counted = records-some (length files) r own has;
+                most = omega arith;
+                inside = inside;
+              };
+          kind = rw (k, f) at (h .1 .0);
+          offset = rw (k, f) at (h .1 .1 .1 .1 .1 .0);
+          «record» = rw (k, g, f) at (h .1 .1 .1 .1 .1 .1 .0);
+          length = rw (k, l, f) at (h .1 .1 .1 .1 .1 .1 .1 .0);
+        }
+
+-- a file command whose file has a row, and the word of its checks up to the lengths
+module _ (domain : ℕ) (c : Command) («data» : List ℕ) (s : Session) (t files : List ℕ) {r : Row} {word : ℕ} (row : r ≡ rowOf t (s .file)) (told : (w : Situation) → w .command ≡ c → length (w .«data») ≡ length «data» → w .domain ≡ domain → w .session ≡ s → w .file .row ≡ r → word ≡ failWord (firstFailing w (formalChecks ++ boundChecks))) where
+  word-of : (format : Format) (journal : List ℕ) → word ≡ failWord (firstFailing (situation format domain c «data» s (lent t files journal)) (formalChecks ++ boundChecks))
+  unfolding situation fileAt
+  word-of format journal = told (situation format domain c «data» s (lent t files journal)) refl refl refl refl (sym row)
+
+  pub check-failed : (word ≡ 0 → ⊥) → (format : Format) (bytes : List ℕ) {d : Decision} → planOf d «data» bytes ≡ failed s word → d .change ≡ Nothing → Unroomed format domain c «data» s t files bytes d
+  unfolding situation
+  check-failed z format bytes e n =
+      record {
+        same = λ journal. e ∙ check-fails (situation format domain c «data» s (lent t files journal)) (word-of format journal) z;
+        fits = none-fits (length t) (length files) (length «data») n;
+      }
+
+  module _ (zero : word ≡ 0) where
+    held : (format : Format) (journal : List ℕ) → AllHold (situation format domain c «data» s (lent t files journal)) (formalChecks ++ boundChecks)
+    held format journal = check-holds (situation format domain c «data» s (lent t files journal)) (sym zero ∙ word-of format journal)
+
+    pub check-passed : Able t files s c (length «data») → Narrow r → Passed (length files) c (length «data») s r
+    unfolding situation fileAt
+    check-passed can narrow =
+        let w = situation Compact domain c «data» s (lent t files []) in
+        passed can row narrow w refl refl refl (sym row) (bounds-hold w (held Compact []))
+
+    module _ (i : ℕ) (e : c .instruction ≡ i) (format : Format) (bytes : List ℕ) {d : Decision} where
+      pub check-done : ((journal : List ℕ) → planOf d «data» bytes ≡ summed i (fileAt (lent t files journal) (s .file)) «data» s (doneBy i (situation format domain c «data» s (lent t files journal)))) → Fits (length t) (length files) (length «data») (d .change) → Unroomed format domain c «data» s t files bytes d
+      unfolding situation
+      check-done so h =
+          record {
+            same = λ journal.
+                let w = situation format domain c «data» s (lent t files journal) in
+                so journal ∙ (λ k. summed (sym e k) (w .file) «data» s (doneBy (sym e k) w)) ∙ roomless-done w (held format journal);
+            fits = h;
+          }
+
+      pub check-plainly : eqb i ins.increase ≡ false → ((journal : List ℕ) → planOf d «data» bytes ≡ doneBy i (situation format domain c «data» s (lent t files journal))) → Fits (length t) (length files) (length «data») (d .change) → Unroomed format domain c «data» s t files bytes d
+      check-plainly n so = check-done (λ journal. so journal ∙ sym (plain-sum i (fileAt (lent t files journal) (s .file)) «data» s _ n))
+
+-- with the journal's room: what `with_room` gives, and what it comes to
+abbrev pub WithRoom : Decision → Session → ℕ → ℕ → ℕ → Decision → Type 0
+WithRoom d s lc used left e = (((«data» bytes : List ℕ) → length «data» ≡ lc → length bytes ≡ 255 → planOf e «data» bytes ≡ roomed used left s (planOf d «data» bytes)) × ((t f : ℕ) → Fits t f lc (d .change) → Fits t f lc (e .change)))
+
+pub room-decided : (format : Format) (domain : ℕ) (c : Command) («data» : List ℕ) (s : Session) (t files journal bytes : List ℕ) {d e : Decision} {used left : ℕ} → Ready (lent t files journal) s c (length «data») → eqb (c .instruction) ins.select ≡ false → eqb (c .instruction) ins.getResponse ≡ false → used ≡ usedBytes journal → left ≡ room journal → length bytes ≡ 255 → Unroomed format domain c «data» s t files bytes d → WithRoom d s (length «data») used left e → Decided (lent t files journal) «data» bytes (planned (situation format domain c «data» s (lent t files journal))) e
+unfolding situation fileAt
+room-decided format domain c «data» s t files journal bytes ready a b u l long unroomed told =
+    let inside = journal-parts ready .used in
+    let known = room-behind (situation format domain c «data» s (lent t files journal)) inside a b in
+    record {
+      same = told .0 «data» bytes refl long ∙ (λ i. roomed (u i) (l i) s (unroomed .same journal i)) ∙ known;
+      fits = told .1 (length t) (length files) (unroomed .fits);
+      journal = roomed-inside _ _ _ _ known inside;
+    }

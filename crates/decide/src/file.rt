@@ -1,0 +1,206 @@
+// The file commands: the first check that fails, or what the instruction does, but for the journal's room. There is one function for
+// each instruction, which names it to the checks as a number.
+use card::Row;
+use command::Command;
+use command::Format;
+use command::checks::bound_word;
+use command::checks::formal_word;
+use command::instruction::ACTIVATE;
+use command::instruction::DEACTIVATE;
+use command::instruction::INCREASE;
+use command::instruction::READ_BINARY;
+use command::instruction::READ_RECORD;
+use command::instruction::SEARCH;
+use command::instruction::UPDATE_BINARY;
+use command::instruction::UPDATE_RECORD;
+use plan::Decision;
+use plan::does;
+use plan::failed;
+use session::Session;
+ghost use mathlib.Core.Path.{_≡_};
+ghost use mathlib.Core.Bool.{true};
+ghost use mathlib.Core.List.{List, _++_};
+ghost use Prim.Native.Nat.{ℕ, _≤_, _<_};
+ghost use lib.ListN.{length};
+ghost use Rattle.card.specs.Row.{hasRecords};
+ghost use Rattle.command.specs.Instructions as ins;
+ghost use Rattle.command.specs.Plans.{Situation};
+ghost use Rattle.command.specs.Checks as checks-spec;
+ghost use Rattle.decide.specs.Decisions.{Able, Unroomed};
+
+// The word of the first check of a file command that fails, up to the lengths, or 0.
+fn checked(i: usize, c: Command, lc: usize, domain: usize, s: Session, r: Row) -> usize
+    requires { ⌜ (c .instruction ≡ i) × (hasRecords r ≡ true → 1 ≤ r .«record») × (c .p1 < 256) × (c .p2 < 256) × (lc < 65536) ⌝ }
+    ensures { λ n. ⌜ ((w : Situation) → w .command ≡ c → length (w .«data») ≡ lc → w .domain ≡ domain → w .session ≡ s → w .file .row ≡ r → n ≡ checks-spec.failWord (checks-spec.firstFailing w (checks-spec.formalChecks ++ checks-spec.boundChecks))) ⌝ }
+{
+    let word = formal_word(i, c, lc, domain);
+    if word != 0 {
+        return word;
+    }
+    bound_word(i, c, lc, s.file as usize, s.number as usize, r)
+}
+
+// READ BINARY.
+pub fn read_binary(
+    format: Format,
+    domain: usize,
+    c: Command,
+    data: &[u8],
+    s: Session,
+    table: &[u8],
+    files: &[u8],
+) -> Decision
+    requires { ⌜ Able (now table) (now files) s c (length (now «data»)) × (c .instruction ≡ ins.readBinary) ⌝ }
+    ensures { λ d. ⌜ ((bytes : List ℕ) → Unroomed format domain c (now («data» .entry)) s (now (table .entry)) (now (files .entry)) bytes d) ⌝ }
+{
+    let r = card::row_at(table, s.file as usize);
+    let word = checked(READ_BINARY, c, data.len(), domain, s, r);
+    if word != 0 {
+        return failed(s, word);
+    }
+    does::read_binary(format, c, s, r)
+}
+
+// UPDATE BINARY.
+pub fn update_binary(
+    domain: usize,
+    c: Command,
+    data: &[u8],
+    s: Session,
+    table: &[u8],
+    files: &[u8],
+) -> Decision
+    requires { ⌜ Able (now table) (now files) s c (length (now «data»)) × (c .instruction ≡ ins.updateBinary) ⌝ }
+    ensures { λ d. ⌜ ((format : Format) (bytes : List ℕ) → Unroomed format domain c (now («data» .entry)) s (now (table .entry)) (now (files .entry)) bytes d) ⌝ }
+{
+    let r = card::row_at(table, s.file as usize);
+    let word = checked(UPDATE_BINARY, c, data.len(), domain, s, r);
+    if word != 0 {
+        return failed(s, word);
+    }
+    does::update_binary(c, s, r)
+}
+
+// READ RECORD.
+pub fn read_record(
+    domain: usize,
+    c: Command,
+    data: &[u8],
+    s: Session,
+    table: &[u8],
+    files: &[u8],
+) -> Decision
+    requires { ⌜ Able (now table) (now files) s c (length (now «data»)) × (c .instruction ≡ ins.readRecord) ⌝ }
+    ensures { λ d. ⌜ ((format : Format) (bytes : List ℕ) → Unroomed format domain c (now («data» .entry)) s (now (table .entry)) (now (files .entry)) bytes d) ⌝ }
+{
+    let r = card::row_at(table, s.file as usize);
+    let word = checked(READ_RECORD, c, data.len(), domain, s, r);
+    if word != 0 {
+        return failed(s, word);
+    }
+    does::read_record(c, s, r)
+}
+
+// UPDATE RECORD.
+pub fn update_record(
+    domain: usize,
+    c: Command,
+    data: &[u8],
+    s: Session,
+    table: &[u8],
+    files: &[u8],
+) -> Decision
+    requires { ⌜ Able (now table) (now files) s c (length (now «data»)) × (c .instruction ≡ ins.updateRecord) ⌝ }
+    ensures { λ d. ⌜ ((format : Format) (bytes : List ℕ) → Unroomed format domain c (now («data» .entry)) s (now (table .entry)) (now (files .entry)) bytes d) ⌝ }
+{
+    let r = card::row_at(table, s.file as usize);
+    let word = checked(UPDATE_RECORD, c, data.len(), domain, s, r);
+    if word != 0 {
+        return failed(s, word);
+    }
+    does::update_record(c, s, r)
+}
+
+// SEARCH.
+pub fn search(
+    format: Format,
+    domain: usize,
+    c: Command,
+    data: &[u8],
+    s: Session,
+    table: &[u8],
+    files: &[u8],
+    made: &mut [u8],
+) -> Decision
+    requires { ⌜ Able (now table) (now files) s c (length (now «data»)) × (c .instruction ≡ ins.search) × (length (now made) ≡ 255) ⌝ }
+    ensures { λ d. ⌜ Unroomed format domain c (now («data» .entry)) s (now (table .entry)) (now (files .entry)) (now (made .exit)) d ⌝ }
+{
+    let r = card::row_at(table, s.file as usize);
+    let word = checked(SEARCH, c, data.len(), domain, s, r);
+    if word != 0 {
+        return failed(s, word);
+    }
+    does::search_records(format, c, data, s, r, files, made)
+}
+
+// INCREASE.
+pub fn increase(
+    format: Format,
+    domain: usize,
+    c: Command,
+    data: &[u8],
+    s: Session,
+    table: &[u8],
+    files: &[u8],
+    made: &mut [u8],
+) -> Decision
+    requires { ⌜ Able (now table) (now files) s c (length (now «data»)) × (c .instruction ≡ ins.increase) × (length (now made) ≡ 255) ⌝ }
+    ensures { λ d. ⌜ Unroomed format domain c (now («data» .entry)) s (now (table .entry)) (now (files .entry)) (now (made .exit)) d ⌝ }
+{
+    let r = card::row_at(table, s.file as usize);
+    let word = checked(INCREASE, c, data.len(), domain, s, r);
+    if word != 0 {
+        return failed(s, word);
+    }
+    does::increase(format, data, s, r, files, made)
+}
+
+// DEACTIVATE.
+pub fn deactivate(
+    domain: usize,
+    c: Command,
+    data: &[u8],
+    s: Session,
+    table: &[u8],
+    files: &[u8],
+) -> Decision
+    requires { ⌜ Able (now table) (now files) s c (length (now «data»)) × (c .instruction ≡ ins.deactivate) ⌝ }
+    ensures { λ d. ⌜ ((format : Format) (bytes : List ℕ) → Unroomed format domain c (now («data» .entry)) s (now (table .entry)) (now (files .entry)) bytes d) ⌝ }
+{
+    let r = card::row_at(table, s.file as usize);
+    let word = checked(DEACTIVATE, c, data.len(), domain, s, r);
+    if word != 0 {
+        return failed(s, word);
+    }
+    does::switch(card::DEACTIVATED, s)
+}
+
+// ACTIVATE.
+pub fn activate(
+    domain: usize,
+    c: Command,
+    data: &[u8],
+    s: Session,
+    table: &[u8],
+    files: &[u8],
+) -> Decision
+    requires { ⌜ Able (now table) (now files) s c (length (now «data»)) × (c .instruction ≡ ins.activate) ⌝ }
+    ensures { λ d. ⌜ ((format : Format) (bytes : List ℕ) → Unroomed format domain c (now («data» .entry)) s (now (table .entry)) (now (files .entry)) bytes d) ⌝ }
+{
+    let r = card::row_at(table, s.file as usize);
+    let word = checked(ACTIVATE, c, data.len(), domain, s, r);
+    if word != 0 {
+        return failed(s, word);
+    }
+    does::switch(card::ACTIVATED, s)
+}

@@ -1,0 +1,178 @@
+// Deciding a command: the first check that fails, or what the instruction does, if the journal has room for it.
+mod file;
+
+use card::tree::Found;
+use command::Command;
+use command::Format;
+use command::checks::formal_word;
+use command::checks::path_length_fits;
+use command::instruction::ACTIVATE;
+use command::instruction::DEACTIVATE;
+use command::instruction::GET_RESPONSE;
+use command::instruction::INCREASE;
+use command::instruction::READ_BINARY;
+use command::instruction::READ_RECORD;
+use command::instruction::SEARCH;
+use command::instruction::SELECT;
+use command::instruction::UPDATE_BINARY;
+use command::instruction::UPDATE_RECORD;
+use plan::Change;
+use plan::Decision;
+use plan::does::select_entry;
+use plan::failed;
+use plan::waited;
+use session::Session;
+ghost use mathlib.Core.Path.{_≡_};
+ghost use mathlib.Core.List.{List};
+ghost use Prim.Native.Nat.{ℕ, _≤_, _<_};
+ghost use lib.ListN.{length};
+ghost use Rattle.card.specs.Row.{lent, entries, rowOf};
+ghost use Rattle.card.specs.Tree.{ParentsInside};
+ghost use Rattle.journal.specs.Changes.{cost};
+ghost use Rattle.session.specs.Fcp.{FcpFits};
+ghost use Rattle.session.specs.Select.{find};
+ghost use Rattle.command.specs.Instructions as ins;
+ghost use Rattle.command.specs.Plans.{Situation};
+ghost use Rattle.command.specs.Checks as checks-spec;
+ghost use Rattle.command.specs.Commands.{situation, decided, planned};
+ghost use Rattle.plan.specs.Decisions.{writesOf, planOf, Fits, Brief};
+ghost use Rattle.decide.specs.Decisions.{roomed, responded, Ready, Decided};
+
+// GET RESPONSE.
+fn get_response(c: Command, s: Session) -> Decision
+    ensures { λ d. ⌜ ((«data» bytes : List ℕ) → planOf d «data» bytes ≡ responded c s) × (d .change ≡ Change.Nothing) ⌝ }
+{
+    let valid = s.valid as usize;
+    let kept = s.kept as usize;
+    if valid < 1 {
+        return failed(s, 0x6985);
+    }
+    if valid < c.p3 {
+        return failed(s, 0x6700);
+    }
+    if c.p3 == 0 {
+        return waited(s, kept, valid);
+    }
+    waited(s, kept, c.p3)
+}
+
+// SELECT, behind the formal checks.
+fn decide_select(
+    format: Format,
+    c: Command,
+    data: &[u8],
+    s: Session,
+    table: &[u8],
+    made: &mut [u8],
+) -> Decision
+    requires { ⌜ (length (now made) ≡ 255) × (c .instruction ≡ ins.select) × ((e : ℕ) → find (now table) (s .root) (s .directory) (c .p1) (now «data») ≡ Found.At e → (e < entries (now table)) × (e < 256) × FcpFits (rowOf (now table) e)) × (s .root < entries (now table)) × (s .directory < entries (now table)) × ParentsInside (now table) ⌝ }
+    ensures { λ d. ⌜ ((w : Situation) → w .format ≡ format → w .command ≡ c → w .«data» ≡ now («data» .entry) → w .session ≡ s → w .table ≡ now (table .entry) → w .found ≡ find (now (table .entry)) (s .root) (s .directory) (c .p1) (now («data» .entry)) → planOf d (now («data» .entry)) (now (made .exit)) ≡ decided w (checks-spec.firstFailing w checks-spec.selectChecks)) × (d .change ≡ Change.Nothing) ⌝ }
+{
+    if !path_length_fits(c.p1, data.len()) {
+        return failed(s, 0x6700);
+    }
+    let Found::At(e) = session::select::find(
+        table,
+        s.root as usize,
+        s.directory as usize,
+        c.p1,
+        data,
+    ) else {
+        return failed(s, 0x6A82);
+    };
+    select_entry(format, s, c.p2, e, card::row_at(table, e), made)
+}
+
+// The journal bytes that a change takes, with so many data bytes.
+fn cost_of(change: Change, lc: usize) -> usize
+    requires { ⌜ (lc < 256) × Brief change ⌝ }
+    ensures { λ n. ⌜ ((«data» bytes : List ℕ) → length «data» ≡ lc → length bytes ≡ 255 → n ≡ cost (writesOf change «data» bytes)) × (n < 65536) ⌝ }
+{
+    match change {
+        Change::Nothing => 0,
+        Change::Content(_, _, _) => 8 + lc,
+        Change::DataRecord(_) => 8 + lc + 9,
+        Change::SumRecord(r) => 8 + r.record + 9,
+        Change::TableByte(_, _) => 9,
+    }
+}
+
+// A decision, or 6581 where the journal has no room for what it writes.
+fn with_room(d: Decision, s: Session, lc: usize, used: usize, room: usize) -> Decision
+    requires { ⌜ (lc < 256) × (used < 65536) × (used ≤ room) × Brief (d .change) ⌝ }
+    ensures { λ r. ⌜ ((«data» bytes : List ℕ) → length «data» ≡ lc → length bytes ≡ 255 → planOf r «data» bytes ≡ roomed used room s (planOf d «data» bytes)) × ((t f : ℕ) → Fits t f lc (d .change) → Fits t f lc (r .change)) ⌝ }
+{
+    let change = d.change;
+    if room < used + cost_of(change, lc) {
+        return failed(s, 0x6581);
+    }
+    d
+}
+
+// A command in a session on a card, with its data: what it makes is put at the start of the bytes that are lent for it.
+pub fn decide(
+    format: Format,
+    domain: usize,
+    c: Command,
+    data: &[u8],
+    s: Session,
+    table: &[u8],
+    files: &[u8],
+    journal: &[u8],
+    made: &mut [u8],
+) -> Decision
+    requires { ⌜ Ready (lent (now table) (now files) (now journal)) s c (length (now «data»)) × (length (now made) ≡ 255) ⌝ }
+    ensures { λ d. ⌜ Decided (lent (now (table .entry)) (now (files .entry)) (now (journal .entry))) (now («data» .entry)) (now (made .exit)) (planned (situation format domain c (now («data» .entry)) s (lent (now (table .entry)) (now (files .entry)) (now (journal .entry))))) d ⌝ }
+{
+    let i = c.instruction;
+    let lc = data.len();
+    if i == SELECT {
+        let word = formal_word(SELECT, c, lc, domain);
+        if word != 0 {
+            return failed(s, word);
+        }
+        return decide_select(format, c, data, s, table, made);
+    }
+    if i == GET_RESPONSE {
+        let word = formal_word(GET_RESPONSE, c, lc, domain);
+        if word != 0 {
+            return failed(s, word);
+        }
+        return get_response(c, s);
+    }
+    let used = journal::read::used_bytes(journal);
+    let room = journal::read::room_of(journal);
+    if i == READ_BINARY {
+        let d = file::read_binary(format, domain, c, data, s, table, files);
+        return with_room(d, s, lc, used, room);
+    }
+    if i == UPDATE_BINARY {
+        let d = file::update_binary(domain, c, data, s, table, files);
+        return with_room(d, s, lc, used, room);
+    }
+    if i == READ_RECORD {
+        let d = file::read_record(domain, c, data, s, table, files);
+        return with_room(d, s, lc, used, room);
+    }
+    if i == UPDATE_RECORD {
+        let d = file::update_record(domain, c, data, s, table, files);
+        return with_room(d, s, lc, used, room);
+    }
+    if i == SEARCH {
+        let d = file::search(format, domain, c, data, s, table, files, made);
+        return with_room(d, s, lc, used, room);
+    }
+    if i == INCREASE {
+        let d = file::increase(format, domain, c, data, s, table, files, made);
+        return with_room(d, s, lc, used, room);
+    }
+    if i == DEACTIVATE {
+        let d = file::deactivate(domain, c, data, s, table, files);
+        return with_room(d, s, lc, used, room);
+    }
+    if i == ACTIVATE {
+        let d = file::activate(domain, c, data, s, table, files);
+        return with_room(d, s, lc, used, room);
+    }
+    failed(s, formal_word(i, c, lc, domain))
+}

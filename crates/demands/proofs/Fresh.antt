@@ -1,0 +1,150 @@
+-- A script starts afresh: a first command that works on a file finds none, ends with 6986, and changes nothing. Assumes nothing.
+use Prim.Native.Nat.{ℕ}
+use mathlib.Core.Path.{_≡_, refl, ap, _∙_}
+use mathlib.Core.Bool.{Bool, true, false}
+use mathlib.Core.List.{List, [], _∷_, _++_}
+use mathlib.Core.Option.{none}
+use native.Mathlib.Omega.{arith}
+use borrow.Author.Tests.{ne-eqb}
+use Rattle.octets.specs.Choice.{pick}
+use Rattle.octets.specs.Bytes.{bytes2}
+use Rattle.card.specs.Row.{Card}
+use Rattle.tlv.specs.declared.template.Template.{Template}
+use Rattle.tlv.specs.declared.template.Template.the-variants.{Definite, Indefinite, Missing}
+use Rattle.tlv.specs.Lengths.{lengthBytes}
+use Rattle.tlv.specs.Templates.{templateOf}
+use Rattle.journal.specs.Changes.{perform}
+use Rattle.session.specs.Session.{start, startWaiting}
+use Rattle.command.specs.declared.Format.the-variants.{Compact, Expanded}
+use Rattle.command.specs.Instructions as ins
+use Rattle.command.specs.Outcomes.{Plan, failed, dataOf}
+use Rattle.command.specs.Plans.{Situation}
+use Rattle.command.specs.Checks.{Check, formalChecks, boundChecks, fileChecks, laterChecks, order, checkWord, holds, firstFailing}
+use Rattle.command.specs.Commands.{State, started, stepped, situation, carriedOut, decided, planned}
+use Rattle.compact.specs.Compact as compact
+use Rattle.expanded.specs.Capdu.{capduCommand}
+use Rattle.expanded.specs.Expanded as expanded
+use Rattle.step.specs.Limits.{rapduSize, limited}
+use Rattle.expanded.specs.Expanded.{rapdu, keeps, Progress, answered, lastRapdu, stepCapdu, begun, countBytes, definiteBody, definiteAnswer, indefiniteAnswer, answerBytes}
+use Rattle.engine.specs.Numbers.{Arguments, formatOf}
+use Rattle.engine.specs.Calls.{accepted, runScript}
+use Rattle.demands.specs.Given.{running, given, number}
+use Rattle.engine.specs.Hex.{digit, hex}
+use Rattle.demands.specs.Commands.{after, lastOf, Read, readIn, commandsOf, commandDone, wordGoesOn, statesAfter, Piece, capdu, piecesOf, isDefinite, pieceDone, pieceGoesOn, progressAfter}
+use Rattle.demands.specs.Demand2.{withMark, WorksOnFile, firstSituation, oneCommand, noFile, Fresh}
+use Rattle.demands.proofs.LawsRefused.{run-done}
+use Rattle.demands.proofs.Commands.{one-only, compact-runs, expanded-runs}
+
+-- checks of which none fails are passed
+passed-at : (b : Bool) (w : Situation) (k : Check) (ks ls : List Check) → holds w k ≡ b → firstFailing w (k ∷ ks) ≡ none
+    → (firstFailing w ks ≡ none → firstFailing w (ks ++ ls) ≡ firstFailing w ls) → firstFailing w ((k ∷ ks) ++ ls) ≡ firstFailing w ls
+unfolding firstFailing pick
+passed-at true w k ks ls e h rest = rw (e, pick) (rest (rw (e, pick) at h))
+passed-at false w k ks ls e h rest = absurd (let g = rw (e, pick) at h in let z : _≡_ {A = ℕ} 0 1 = cc in omega arith)
+
+passed : (w : Situation) (ks ls : List Check) → firstFailing w ks ≡ none → firstFailing w (ks ++ ls) ≡ firstFailing w ls
+passed w [] ls h = refl
+passed w (k ∷ ks) ls h = passed-at (holds w k) w k ks ls refl h (passed w ks ls)
+
+-- no file is current
+no-file : (w : Situation) → WorksOnFile w → w .session .file ≡ 0 → planned w ≡ failed (w .session) 0x6986
+unfolding planned decided order laterChecks fileChecks boundChecks firstFailing holds checkWord pick
+no-file w h z =
+    ap (decided w) (passed w formalChecks (laterChecks (w .command .instruction)) (h .formal))
+    ∙ rw (ne-eqb (w .command .instruction) ins.select (h .notSelect), ne-eqb (w .command .instruction) ins.getResponse (h .notGetResponse), z)
+
+-- the state of a script that was stopped so
+stopped : ℕ → Card → State
+stopped application card = stepped (started application card) (carriedOut (failed (start application) 0x6986) startWaiting card)
+
+-- ---- compact
+
+module _ (script : List ℕ) (application domain : ℕ) (card : Card) (r : Read) (rs : List Read) (first : commandsOf script ≡ r ∷ rs)
+    (works : WorksOnFile (situation Compact domain (r .command) (r .«data») (start application) card)) where
+  -- the state after the command
+  command-fails : commandDone domain (started application card) r ≡ stopped application card
+  unfolding commandDone started situation start stopped carriedOut perform
+  command-fails =
+      ap (λ (p : Plan). stepped (started application card) (carriedOut p startWaiting card))
+      (no-file (situation Compact domain (r .command) (r .«data») (start application) card) works refl)
+
+  compact-stops : compact.run script application domain card ≡ stopped application card
+  unfolding statesAfter wordGoesOn stopped stepped carriedOut failed
+  compact-stops =
+      compact-runs script application domain card .state
+      ∙ ap (λ (l : List Read). lastOf (started application card) (after (commandDone domain) wordGoesOn (started application card) l)) first
+      ∙ one-only (commandDone domain) wordGoesOn (started application card) r rs (ap wordGoesOn command-fails)
+      ∙ command-fails
+
+compact-fresh : (a : Arguments) (c : Card) (r : Read) (rs : List Read) → number (given (running a) c) ≡ 0 → a .format ≡ 0 → commandsOf (a .script) ≡ r ∷ rs
+    → WorksOnFile (firstSituation Compact a r c) → given (running a) c ≡ oneCommand c (hex "016986") (a .response)
+unfolding runScript accepted compact.answer oneCommand stopped started stepped carriedOut failed perform dataOf bytes2 hex digit pick formatOf
+compact-fresh a c r rs ok f first works =
+    run-done a c ok
+    ∙ rw (f, compact-stops (a .script) (a .application) (a .domain) (withMark c) r rs first works)
+
+-- ---- expanded
+
+-- an R-APDU is kept or stands last: either way it is all that stands in the answer
+module _ (definite : Bool) (domain application : ℕ) (card : Card) (bytes : List ℕ) where
+  abbrev command : Read
+  command = readIn bytes (capduCommand bytes)
+
+  abbrev plan : Plan
+  plan = planned (situation Expanded domain (command .command) (command .«data») (start application) card)
+
+  either-counts : (counts : Bool) → plan ≡ failed (start application) 0x6986
+      → let st = stepped (started application card) (carriedOut (limited 0 counts (start application) plan) startWaiting card) in
+      let p = answered counts st [] (lastRapdu (st .step) (st .card .files) (st .waiting)) in
+      (p .state ≡ stopped application card) × (p .kept ++ p .last ≡ hex "23026986")
+  unfolding limited answered lastRapdu rapdu rapduSize lengthBytes dataOf bytes2 stopped stepped carriedOut failed perform hex digit pick
+  either-counts true e = rw e (refl, refl)
+  either-counts false e = rw e (refl, refl)
+
+  module _ (works : WorksOnFile (situation Expanded domain (command .command) (command .«data») (start application) card)) where
+    abbrev done : Progress
+    done = pieceDone definite domain (begun application card) (capdu bytes)
+
+    piece-fails : (done .state ≡ stopped application card) × (done .kept ++ done .last ≡ hex "23026986")
+    unfolding pieceDone stepCapdu begun started situation start readIn
+    piece-fails = either-counts (keeps definite (capduCommand bytes .command .case)) (no-file _ works refl)
+
+    piece-stops : pieceGoesOn done ≡ false
+    unfolding pieceGoesOn wordGoesOn stopped stepped carriedOut failed
+    piece-stops = ap wordGoesOn (piece-fails .0)
+
+-- the answer of a template
+template-answer : (template : Template) (p : Progress) (application : ℕ) (c : Card) (response : List ℕ) → p .state ≡ stopped application (withMark c) → p .kept ++ p .last ≡ hex "23026986"
+    → accepted (p .state) (expanded.answer template p) response ≡ oneCommand c (noFile template) response
+unfolding accepted expanded.answer answerBytes definiteAnswer indefiniteAnswer definiteBody countBytes lengthBytes bytes2 oneCommand noFile stopped started stepped carriedOut failed perform hex digit pick
+template-answer (Definite at end) p application c response e f = rw (e, f)
+template-answer (Indefinite at end) p application c response e f = rw (e, f)
+template-answer Missing p application c response e f = rw e
+
+expanded-fresh : (a : Arguments) (c : Card) (bytes : List ℕ) (pieces : List Piece) → number (given (running a) c) ≡ 0 → a .format ≡ 1
+    → piecesOf (templateOf (a .script)) (a .script) ≡ capdu bytes ∷ pieces
+    → WorksOnFile (firstSituation Expanded a (readIn bytes (capduCommand bytes)) c)
+    → given (running a) c ≡ oneCommand c (noFile (templateOf (a .script))) (a .response)
+unfolding runScript formatOf pick progressAfter
+expanded-fresh a c bytes pieces ok f first works =
+    let t = templateOf (a .script) in
+    let p = pieceDone (isDefinite t) (a .domain) (begun (a .application) (withMark c)) (capdu bytes) in
+    let fails = piece-fails (isDefinite t) (a .domain) (a .application) (withMark c) bytes works in
+    let whole : expanded.run t (a .script) (a .application) (a .domain) (withMark c) ≡ p =
+    expanded-runs t (a .script) (a .application) (a .domain) (withMark c) .progress
+    ∙ ap (λ (l : List Piece). lastOf (begun (a .application) (withMark c)) (after (pieceDone (isDefinite t) (a .domain)) pieceGoesOn (begun (a .application) (withMark c)) l)) first
+    ∙ one-only (pieceDone (isDefinite t) (a .domain)) pieceGoesOn (begun (a .application) (withMark c)) (capdu bytes) pieces (piece-stops (isDefinite t) (a .domain) (a .application) (withMark c) bytes works)
+    in
+    run-done a c ok
+    ∙ rw (f, whole)
+    (template-answer t p (a .application) c (a .response) (fails .0) (fails .1))
+
+pub fresh : (c : Card) (a : Arguments) → number (given (running a) c) ≡ 0 → Fresh c a
+unfolding started start startWaiting
+fresh c a ok =
+    record {
+      session = refl;
+      waiting = refl;
+      compact = λ r rs f. compact-fresh a c r rs ok f;
+      expanded = λ bytes pieces f. expanded-fresh a c bytes pieces ok f;
+    }

@@ -1,0 +1,11 @@
+pub mod Worked
+pub mod History
+pub mod LawsRefused
+pub mod LawsAlike
+pub mod Laws
+pub mod Demand1
+pub mod Commands
+pub mod AllRead
+pub mod Fresh
+pub mod Demand2
+pub mod Demands

@@ -1,0 +1,76 @@
+-- Demand 1: "No table, memory, journal or script makes the engine fail, read outside what it was lent, or run on. Each call checks
+-- everything itself. A refused call gives its number, reports no command executed, and changes no byte."
+--
+-- That no call fails, reads outside what it was lent or runs on is what the check of the code itself proves, for any bytes: the
+-- three calls ask nothing of their caller. Here stands the rest: which call gets which number, and what a refused call leaves.
+use Prim.Native.Nat.{ℕ, _≤_, _<_}
+use mathlib.Core.Bool.{true, false}
+use mathlib.Core.Logic.{_↔_, _⊎_}
+use mathlib.Core.Path.{_≡_}
+use lib.ListN.{length}
+use Rattle.card.specs.Row.{Card}
+use Rattle.journal.specs.Entries.{scriptsOnTrial}
+use Rattle.journal.specs.Sound.{soundCard}
+use Rattle.engine.specs.Numbers.{Arguments, formatOf, argumentsFit, scriptFits, leastResponse, markFits, templateFits}
+use Rattle.engine.specs.Calls.{gives, numbered}
+use Rattle.demands.specs.Given.{Call, running, takingBack, confirming, given, number, lentResponse}
+
+-- n is the number of a run: "Checked in this order", each is given exactly when its condition holds and none before it does
+pub record RunNumber (a : Arguments) (c : Card) (n : ℕ) : Type 0 where
+  pub one : n ≡ 1 ↔ (soundCard c ≡ false)
+  pub two : n ≡ 2 ↔ (soundCard c ≡ true) × (argumentsFit (c .table) a ≡ false)
+  pub three :
+      n ≡ 3
+      ↔ (soundCard c ≡ true) × (argumentsFit (c .table) a ≡ true) × (scriptFits (a .script) ≡ false)
+  pub four :
+      n ≡ 4
+      ↔ (soundCard c ≡ true)
+      × (argumentsFit (c .table) a ≡ true)
+      × (scriptFits (a .script) ≡ true)
+      × (length (a .response) < leastResponse (formatOf (a .format)))
+  pub five :
+      n ≡ 5
+      ↔ (soundCard c ≡ true)
+      × (argumentsFit (c .table) a ≡ true)
+      × (scriptFits (a .script) ≡ true)
+      × (leastResponse (formatOf (a .format)) ≤ length (a .response))
+      × (markFits (c .journal) ≡ false)
+  pub six :
+      n ≡ 6
+      ↔ (soundCard c ≡ true)
+      × (argumentsFit (c .table) a ≡ true)
+      × (scriptFits (a .script) ≡ true)
+      × (leastResponse (formatOf (a .format)) ≤ length (a .response))
+      × (markFits (c .journal) ≡ true)
+      × (templateFits (formatOf (a .format)) (a .script) ≡ false)
+  pub accepted :
+      n ≡ 0
+      ↔ (soundCard c ≡ true)
+      × (argumentsFit (c .table) a ≡ true)
+      × (scriptFits (a .script) ≡ true)
+      × (leastResponse (formatOf (a .format)) ≤ length (a .response))
+      × (markFits (c .journal) ≡ true)
+      × (templateFits (formatOf (a .format)) (a .script) ≡ true)
+  pub noOther : n ≤ 6
+
+-- n is the number of a take-back
+pub record TakeBackNumber (c : Card) (n : ℕ) : Type 0 where
+  pub one : n ≡ 1 ↔ (soundCard c ≡ false)
+  pub seven : n ≡ 7 ↔ (soundCard c ≡ true) × (scriptsOnTrial (c .journal) ≡ 0)
+  pub accepted : n ≡ 0 ↔ (soundCard c ≡ true) × (1 ≤ scriptsOnTrial (c .journal))
+  pub noOther : (n ≡ 0) ⊎ ((n ≡ 1) ⊎ (n ≡ 7))
+
+-- n is the number of a confirmation
+pub record ConfirmNumber (c : Card) (n : ℕ) : Type 0 where
+  pub one : n ≡ 1 ↔ (soundCard c ≡ false)
+  pub accepted : n ≡ 0 ↔ (soundCard c ≡ true)
+  pub noOther : n ≤ 1
+
+pub record Demand1 : Type 0 where
+  -- a call with a number other than 0 has length 0 and count 0, and leaves table, files, journal and response memory as they were
+  pub refused :
+      (h : Call) (c : Card) → (number (given h c) ≡ 0 → ⊥) → given h c ≡ gives (numbered (number (given h c))) c (lentResponse h)
+  -- the numbers are exactly those of the table, in its order
+  pub runs : (a : Arguments) (c : Card) → RunNumber a c (number (given (running a) c))
+  pub takeBacks : (c : Card) → TakeBackNumber c (number (given takingBack c))
+  pub confirmations : (c : Card) → ConfirmNumber c (number (given confirming c))

@@ -1,0 +1,146 @@
+-- Demand 2: "Each accepted script, compact or expanded, does to the files and answers with the bytes exactly what document 01 says: the
+-- same commands run, the same status, count and stopping place."
+--
+-- What a call gives is said in `Calls`, and the contracts of the three calls cite it for the answer and for every byte of each lent
+-- memory. Here stands what it comes to: the commands that run and their count, the fresh start, the marked cases, the cyclic law.
+use Prim.Native.Nat.{ℕ, _+_, _-_, _*_, _%_, _≤_, _<_}
+use mathlib.Core.List.{List, [], _∷_}
+use mathlib.Core.Option.{none}
+use mathlib.Core.Path.{_≡_}
+use lib.ListN.{length}
+use Rattle.octets.specs.Bytes.{byte, overwrite, zeros}
+use Rattle.card.specs.declared.Row.{Row}
+use Rattle.card.specs.Row.{Card}
+use Rattle.card.specs.Sound.{recordCount}
+use Rattle.card.specs.Records.{cyclicPlace, recordOffset}
+use Rattle.tlv.specs.declared.template.Template.{Template}
+use Rattle.tlv.specs.declared.template.Template.the-variants.{Definite, Indefinite, Missing}
+use Rattle.tlv.specs.Templates.{templateOf}
+use Rattle.journal.specs.Changes.{withJournal, marked}
+use Rattle.session.specs.Session as session
+use Rattle.session.specs.Session.{start}
+use Rattle.command.specs.declared.Format.{Format}
+use Rattle.command.specs.declared.Format.the-variants.{Compact, Expanded}
+use Rattle.command.specs.Instructions as ins
+use Rattle.command.specs.Plans.{Situation}
+use Rattle.command.specs.Checks.{formalChecks, firstFailing}
+use Rattle.command.specs.Commands.{started, situation}
+use Rattle.compact.specs.Compact as compact
+use Rattle.expanded.specs.Capdu.{capduCommand}
+use Rattle.expanded.specs.Expanded as expanded
+use Rattle.expanded.specs.Expanded.{begun}
+use Rattle.engine.specs.Numbers.{Arguments, formatOf}
+use Rattle.engine.specs.Calls.{Result, gives, runScript}
+use Rattle.demands.specs.Given.{running, given, number}
+use Rattle.demands.specs.Commands.{lastOf, Read, readIn, commandsFrom, commandsOf, statesAfter, Piece, capdu, piecesIn, piecesOf, progressAfter}
+use Rattle.engine.specs.Hex.{hex}
+use Rattle.engine.specs.Worked.{Marked}
+
+-- ---- the commands that run
+
+-- a compact script leaves the state after the last command that runs, and counts those that run
+pub record CompactRuns (script : List ℕ) (application domain : ℕ) (card : Card) : Type 0 where
+  pub state :
+      compact.run script application domain card
+      ≡ lastOf (started application card) (statesAfter script application domain card)
+  pub count :
+      compact.run script application domain card .step .count ≡ length (statesAfter script application domain card)
+
+-- and so does an expanded one
+pub record ExpandedRuns (template : Template) (script : List ℕ) (application domain : ℕ) (card : Card) : Type 0 where
+  pub progress :
+      expanded.run template script application domain card
+      ≡ lastOf (begun application card) (progressAfter template script application domain card)
+  pub count :
+      expanded.run template script application domain card .state .step .count
+      ≡ length (progressAfter template script application domain card)
+
+-- ---- "Each script starts afresh."
+
+-- the card that an accepted run's script starts on: it has the script's mark
+abbrev pub withMark : Card → Card
+withMark c = withJournal c (marked (c .journal))
+
+-- a command that works on a file: neither SELECT nor GET RESPONSE, and no formal check fails
+pub record WorksOnFile (w : Situation) : Type 0 where
+  pub notSelect : w .command .instruction ≡ ins.select → ⊥
+  pub notGetResponse : w .command .instruction ≡ ins.getResponse → ⊥
+  pub formal : firstFailing w formalChecks ≡ none
+
+-- the situation of a script's first command
+abbrev pub firstSituation : Format → Arguments → Read → Card → Situation
+firstSituation format a r c =
+    situation format (a .domain) (r .command) (r .«data») (start (a .application)) (withMark c)
+
+-- an answer of one command, after which table and files are as they were, and the journal has the mark more
+unfoldable pub oneCommand : Card → List ℕ → List ℕ → Result
+oneCommand c answer response =
+    gives (record { number = 0; length = length answer; count = 1 }) (withMark c) (overwrite response 0 answer)
+
+-- the answer 6986 to the only command of a template
+unfoldable pub noFile : Template → List ℕ
+noFile (Definite at end) = hex "AB0780010123026986"
+noFile (Indefinite at end) = hex "AF80230269860000"
+noFile Missing = []
+
+-- a run on a card that another run has left: its script starts from its root, with no file, no record number and nothing waiting
+-- among 255 bytes of zero; and a first command that works on a file ends it with 6986
+pub record Fresh (c : Card) (a : Arguments) : Type 0 where
+  pub session :
+      started (a .application) (withMark c) .step .session
+      ≡ record {
+        root = a .application;
+        directory = a .application;
+        file = session.none;
+        number = session.none;
+        valid = 0;
+        kept = 0;
+      }
+  pub waiting : started (a .application) (withMark c) .waiting ≡ zeros 255
+  pub compact :
+      (r : Read) (rs : List Read)
+      → a .format ≡ 0 → commandsOf (a .script) ≡ r ∷ rs
+      → WorksOnFile (firstSituation Compact a r c)
+      → given (running a) c ≡ oneCommand c (hex "016986") (a .response)
+  pub expanded :
+      (bytes : List ℕ) (pieces : List Piece)
+      → a .format ≡ 1 → piecesOf (templateOf (a .script)) (a .script) ≡ capdu bytes ∷ pieces
+      → WorksOnFile (firstSituation Expanded a (readIn bytes (capduCommand bytes)) c)
+      → given (running a) c ≡ oneCommand c (noFile (templateOf (a .script))) (a .response)
+
+-- ---- "A cyclic file with m records and newest place k has record r at place (k + r - 1) mod m. This is proved once for any m."
+
+pub record Cyclic (m k : ℕ) : Type 0 where
+  pub place : (r : ℕ) → cyclicPlace m k r ≡ (k + r - 1) % m
+  -- a file of so many records, with its newest there, has record r at that place
+  pub inFile :
+      (f : Row) (r : ℕ) → recordCount f ≡ m → f .newest ≡ k → recordOffset f r ≡ f .«record» * ((k + r - 1) % m)
+  -- record 1 is the newest; records and places are one to one
+  pub newest : cyclicPlace m k 1 ≡ k
+  pub oneNumber : (r s : ℕ) → 1 ≤ r → r ≤ m → 1 ≤ s → s ≤ m → cyclicPlace m k r ≡ cyclicPlace m k s → r ≡ s
+  pub someNumber : (p : ℕ) → p < m → (r : ℕ) × (1 ≤ r) × (r ≤ m) × (cyclicPlace m k r ≡ p)
+  -- where the oldest place becomes the newest, it is record 1, and every other record's number grows by one
+  pub renewed : cyclicPlace m (cyclicPlace m k m) 1 ≡ cyclicPlace m k m
+  pub grown : (r : ℕ) → 1 ≤ r → cyclicPlace m (cyclicPlace m k m) (r + 1) ≡ cyclicPlace m k r
+
+pub record Demand2 : Type 0 where
+  -- an accepted run is its script, run on the card with the script's mark
+  pub accepted :
+      (a : Arguments) (c : Card) → number (given (running a) c) ≡ 0
+      → given (running a) c ≡ runScript (formatOf (a .format)) a (withMark c)
+  -- the same commands run, with the same count and stopping place
+  pub compact : (script : List ℕ) (application domain : ℕ) (card : Card) → CompactRuns script application domain card
+  pub expanded :
+      (template : Template) (script : List ℕ) (application domain : ℕ) (card : Card)
+      → ExpandedRuns template script application domain card
+  -- and these are all that the script has: no larger bound reads one more
+  pub allCommands : (script : List ℕ) (n : ℕ) → length script ≤ n → commandsFrom n script 0 ≡ commandsOf script
+  pub allPieces :
+      (script : List ℕ) → ((i : ℕ) → byte script i < 256) → (n : ℕ) → length script ≤ n
+      → piecesIn n (templateOf script) script ≡ piecesOf (templateOf script) script
+  -- two scripts in a row: the second starts afresh, whatever the first selected
+  pub fresh :
+      (first second : Arguments) (c : Card) → number (given (running second) (given (running first) c .card)) ≡ 0
+      → Fresh (given (running first) c .card) second
+  pub marked : Marked
+  pub cyclic : (m k : ℕ) → k < m → Cyclic m k

@@ -1,0 +1,5 @@
+pub mod Given
+pub mod Commands
+pub mod Demand1
+pub mod Demand2
+pub mod Demand3
