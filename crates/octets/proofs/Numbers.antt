@@ -1,16 +1,15 @@
--- Big-endian numbers: what two bytes are as a number and back, in a part and beside a write, and numbers of any length. Assumes nothing.
+-- Big-endian numbers: what two bytes are as a number, in a part too, and numbers of any length. Assumes nothing.
 use mathlib.Core.Path.{_≡_, refl, sym, ap, _∙_}
 use mathlib.Core.List.{List, [], _∷_, _++_}
 use Prim.Native.Nat.{ℕ, zero, suc, _+_, _*_, _^_, _/_, _%_, _≤_, _<_}
-use native.Mathlib.Nat.{zero-add, add-zero, add-assoc, add-mul, mul-assoc, mul-comm, zero-mul, pow-suc, mod-one, one-le-pow, mod-eq-of-lt}
+use native.Mathlib.Nat.{zero-add, add-zero, add-assoc, add-mul, mul-assoc, mul-comm, zero-mul, pow-suc, mod-one, one-le-pow}
 use native.Mathlib.Numerals.{add-one}
 use native.Mathlib.Omega.{arith}
 use lib.Arith.{mod-mul}
 use lib.Pow.{pow-add}
 use lib.ListN.{length, drop, length-append}
-use lib.Seq.{getD-take, getD-drop, drop-cons}
-use Rattle.octets.specs.Bytes.{byte, part, numAt, bytes2, value, bytesOf, overwrite}
-use Rattle.octets.proofs.Writes.{byte-before, byte-after, byte-inside, part-here}
+use lib.Seq.{getD-take, getD-drop}
+use Rattle.octets.specs.Bytes.{byte, part, numAt, bytes2, value, bytesOf}
 
 pub bytes2-length : (n : ℕ) → length (bytes2 n) ≡ 2
 unfolding bytes2
@@ -33,41 +32,9 @@ num-bytes2 n h = omega arith
 pub num-of-part : (m : List ℕ) (at n : ℕ) → part m at 2 ≡ bytes2 n → n < 65536 → numAt m at ≡ n
 num-of-part m at n e h = num-front m at ∙ ap (λ (l : List ℕ). numAt l 0) e ∙ num-bytes2 n h
 
-pub num-written : (m : List ℕ) (at n : ℕ) → at + 2 ≤ length m → n < 65536 → numAt (overwrite m at (bytes2 n)) at ≡ n
-num-written m at n fits h =
-    num-of-part (overwrite m at (bytes2 n)) at n (part-here m at (bytes2 n) (rw bytes2-length fits) 2 (bytes2-length n)) h
-
-part-two : (m : List ℕ) (at : ℕ) → at + 2 ≤ length m → part m at 2 ≡ byte m at ∷ byte m (at + 1) ∷ []
-part-two m at fits = rw (add-one at, drop-cons m at 0 (omega arith), drop-cons m (suc at) 0 (omega arith))
-
-module _ (m : List ℕ) (at : ℕ) (high : byte m at < 256) (low : byte m (at + 1) < 256) where
-  pub num-small : numAt m at < 65536
-  unfolding numAt
-  num-small = omega arith
-
-  pub bytes2-num : at + 2 ≤ length m → bytes2 (numAt m at) ≡ part m at 2
-  unfolding numAt bytes2
-  bytes2-num fits = (λ i. h i ∷ l i ∷ []) ∙ sym (part-two m at fits)
-    where
-      h : numAt m at / 256 % 256 ≡ byte m at
-      h = omega arith
-
-      l : numAt m at % 256 ≡ byte m (at + 1)
-      l = omega arith
-
--- a number beside a write
-module _ (m : List ℕ) (p : ℕ) (d : List ℕ) (fits : p + length d ≤ length m) (i : ℕ) where
-  pub num-before : i + 2 ≤ p → numAt (overwrite m p d) i ≡ numAt m i
-  unfolding numAt
-  num-before h = rw (byte-before m p d fits i (omega arith), byte-before m p d fits (i + 1) (omega arith))
-
-  pub num-after : p + length d ≤ i → numAt (overwrite m p d) i ≡ numAt m i
-  unfolding numAt
-  num-after h = rw (byte-after m p d fits i h, byte-after m p d fits (i + 1) (omega arith))
-
-  pub num-inside : i + 2 ≤ length d → numAt (overwrite m p d) (p + i) ≡ numAt d i
-  unfolding numAt
-  num-inside h = rw (byte-inside m p d fits i (omega arith), add-assoc, byte-inside m p d fits (i + 1) (omega arith))
+pub num-small : (m : List ℕ) (at : ℕ) → byte m at < 256 → byte m (at + 1) < 256 → numAt m at < 65536
+unfolding numAt
+num-small m at high low = omega arith
 
 -- numbers of any length
 pub bytesOf-length : (k n : ℕ) → length (bytesOf k n) ≡ k
@@ -99,6 +66,3 @@ pub value-bytesOf : (k n : ℕ) → value (bytesOf k n) ≡ n % 256 ^ k
 unfolding bytesOf
 value-bytesOf zero n = unfold value in sym (mod-one n)
 value-bytesOf (suc k) n = value-append (bytesOf k (n / 256)) (n % 256 ∷ []) ∙ rw (value-bytesOf k (n / 256), value-byte, pow-suc 256 k) (sym (mod-mul n (one-le-pow k 256 (omega arith)) (omega arith)))
-
-pub value-whole : (k n : ℕ) → n < 256 ^ k → value (bytesOf k n) ≡ n
-value-whole k n h = value-bytesOf k n ∙ mod-eq-of-lt h

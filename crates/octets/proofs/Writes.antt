@@ -80,12 +80,6 @@ module _ (m : List ℕ) (p : ℕ) (d : List ℕ) (fits : p + length d ≤ length
   pub part-after : (a n : ℕ) → p + length d ≤ a → part (overwrite m p d) a n ≡ part m a n
   part-after a n h = ap (take n) (drop-after a h)
 
-  pub part-inside : (i n : ℕ) → i + n ≤ length d → part (overwrite m p d) (p + i) n ≡ part d i n
-  part-inside i n h =
-      let f : i ≤ length d = omega arith in
-      let g : n ≤ length (drop i d) = simp length-drop (omega arith) in
-      ap (take n) (sym (drop-drop i p (overwrite m p d)) ∙ ap (drop i) drop-here) ∙ rw (drop-append-le, take-append-le)
-
   pub part-here : (n : ℕ) → length d ≡ n → part (overwrite m p d) p n ≡ d
   part-here n e = ap (take n) drop-here ∙ rw (← e) (take-append-seam d (drop (p + length d) m))
 
@@ -126,11 +120,7 @@ write-swap m p q d e h fits =
     let l : length (take q m) ≡ q = length-take-le q m fits in
     rw (take-append-drop, l, add-zero) at (swap-at (take q m) (drop q m) p 0 d e (rw l h))
 
--- a lent part that comes back, a write in it, and a write in all that lies behind a place
-pub part-back : (m : List ℕ) (a k : ℕ) (ys : List ℕ) → length ys ≡ k → take a m ++ (ys ++ drop k (drop a m)) ≡ overwrite m a ys
-unfolding overwrite
-part-back m a k ys e = rw (drop-drop, e)
-
+-- a write in all that lies behind a place, and in a lent part
 pub write-in-rest : (m : List ℕ) (a n : ℕ) (d : List ℕ) → a ≤ length m → take a m ++ overwrite (drop a m) n d ≡ overwrite m (a + n) d
 write-in-rest m a n d h = rw (take-append-drop, length-take-le a m h) at (sym (write-behind (take a m) (drop a m) n d))
 
@@ -160,16 +150,10 @@ pub sets-write : (m : List ℕ) (p : ℕ) (d : List ℕ) → p + length d ≤ le
 unfolding overwrite
 sets-write m p d fits = sets-eq d m p fits ∙ append-assoc (take p m) d (drop (p + length d) m)
 
--- zeros: a part of them, a write of them over them, and what stands where they were written
+-- a part of zeros
 pub zeros-part : (n p k : ℕ) → p + k ≤ n → part (zeros n) p k ≡ zeros k
 zeros-part n p k h =
     let r : ℕ = n - (p + k) in
     let e : n ≡ p + (k + r) = omega arith in
     ap (λ (l : List ℕ). part l p k) (ap zeros e ∙ sym (replicate-append-replicate p (k + r) 0)) ∙ ap (take k) (drop-at (zeros p) (zeros (k + r)) p (length-replicate p 0))
     ∙ ap (take k) (sym (replicate-append-replicate k r 0)) ∙ take-at (zeros k) (zeros r) k (length-replicate k 0)
-
-pub zeros-kept : (n p k : ℕ) → p + k ≤ n → overwrite (zeros n) p (zeros k) ≡ zeros n
-zeros-kept n p k h = rw (zeros-part n p k h) at (write-own (zeros n) p k (rw length-replicate h))
-
-pub zeros-written : (m : List ℕ) (p n : ℕ) → p + n ≤ length m → part (overwrite m p (zeros n)) p n ≡ zeros n
-zeros-written m p n h = part-here m p (zeros n) (rw length-replicate h) n (length-replicate n 0)

@@ -1,5 +1,5 @@
 -- `engine::run` meets its contract: a refusal changes nothing, and else the mark is set and the script of its format run. Assumes nothing.
-use mathlib.Core.Path.{_≡_, refl, ap, _∙_}
+use mathlib.Core.Path.{refl, ap, _∙_}
 use native.Mathlib.Omega.{arith}
 use borrow.Author.Needs.{needs}
 use Rattle.card.specs.Row.{Card, lent}

@@ -5,7 +5,7 @@ use native.Mathlib.Nat.{add-zero}
 use Prim.Native.Nat.{_+_, _-_, _≤_}
 use native.Mathlib.Omega.{arith}
 use borrow.Author.Needs.{needs}
-use lib.ListN.{length, drop}
+use lib.ListN.{drop}
 use Rattle.octets.specs.Bytes.{part, startsWith}
 use Rattle.octets.proofs.Same.{part-more, starts-ends}
 use Rattle.octets.proofs.Writes.{part-length}

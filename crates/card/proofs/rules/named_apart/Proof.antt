@@ -1,5 +1,4 @@
 -- `card::rules::named_apart` meets its contract: entries with two identifiers need no further look. Assumes nothing.
-use mathlib.Core.Path.{sym}
 use mathlib.Core.Bool.{and-false, and-true}
 use borrow.Author.Needs.{needs}
 use borrow.Author.Tests.{eq-eqb, ne-eqb}

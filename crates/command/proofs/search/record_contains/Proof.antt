@@ -2,7 +2,6 @@
 use mathlib.Core.Path.{_≡_, sym, ap, _∙_}
 use mathlib.Core.List.{List}
 use Prim.Native.Nat.{ℕ, _+_, _-_, _≤_}
-use native.Mathlib.Omega.{arith}
 use Rattle.octets.specs.Bytes.{part, contains}
 use Rattle.octets.proofs.Writes.{part-lent, part-part}
 use Rattle.command.specs.Files.{recordBytes}

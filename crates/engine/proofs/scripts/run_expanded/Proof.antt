@@ -1,10 +1,9 @@
 -- `engine::scripts::run_expanded` meets its contract: the value of the template that the script has. Assumes nothing.
-use mathlib.Core.Path.{_≡_, sym, ap, subst, _∙_}
+use mathlib.Core.Path.{sym, ap, _∙_}
 use native.Mathlib.Omega.{arith}
 use lib.ListN.{length}
 use borrow.Author.Needs.{needs}
 use Rattle.card.specs.Row.{Card, lent}
-use Rattle.tlv.specs.declared.template.Template.{Template}
 use Rattle.tlv.specs.Templates.{TemplateFits}
 use Rattle.engine.specs.declared.Answer.{Answer}
 use Rattle.engine.specs.Numbers.{Arguments}
