@@ -37,6 +37,25 @@ withBytes r newest state =
       fifteen = r .fifteen;
     }
 
+-- tables whose rows are the same but for the two bytes
+pub record Rows (t u : List ℕ) : Type 0 where
+  pub count : entries u ≡ entries t
+  pub alike : (d : ℕ) → rowOf u d ≡ withBytes (rowOf t d) (rowOf u d .newest) (rowOf u d .state)
+
+pub rows-same : (t : List ℕ) → Rows t t
+rows-same t = record { count = refl; alike = λ d. refl }
+
+pub rows-both : (t u v : List ℕ) → Rows t u → Rows u v → Rows t v
+rows-both t u v a b =
+    record {
+      count = b .count ∙ a .count;
+      alike = λ d. b .alike d ∙ ap (λ (r : Row). withBytes r (rowOf v d .newest) (rowOf v d .state)) (a .alike d);
+    }
+
+-- a test that does not look at the two bytes says the same of every row
+pub test-kept : (t u : List ℕ) → Rows t u → {A : Type 0} (test : Row → A) → ((r : Row) (n s : ℕ) → test (withBytes r n s) ≡ test r) → (d : ℕ) → test (rowOf u d) ≡ test (rowOf t d)
+test-kept t u rows test blind d = ap test (rows .alike d) ∙ blind (rowOf t d) _ _
+
 own-kept : (files : ℕ) (r : Row) (n s : ℕ) → ownSound files r ≡ true → isFile r ≡ true → newestSound r n ≡ true → stateSound s ≡ true → ownSound files (withBytes r n s) ≡ true
 unfolding ownSound fileSound newestSound recordsSound
 own-kept files r n s own file new state =
@@ -56,20 +75,25 @@ pair-same : (a b : Row) (n s m u : ℕ) → pairSound (withBytes a n s) (withByt
 unfolding pairSound
 pair-same a b n s m u = refl
 
--- rows that are the same but for the two bytes, and sound by themselves
-module _ (n files : ℕ) (at new : ℕ → Row) (alike : (d : ℕ) → new d ≡ withBytes (at d) (new d .newest) (new d .state)) (own : (d : ℕ) → d < n → ownSound files (new d) ≡ true) where
-  stands-kept : (k : ℕ) → stands k (new (new k .parent)) (new k) ≡ stands k (at (at k .parent)) (at k)
+-- so a table of such rows is sound where each of them is by itself
+module _ (t u : List ℕ) (rows : Rows t u) where
+  stands-kept : (k : ℕ) → stands k (rowOf u (rowOf u k .parent)) (rowOf u k) ≡ stands k (rowOf t (rowOf t k .parent)) (rowOf t k)
   stands-kept k =
-      (λ i. stands k (alike (alike k i .parent) i) (alike k i)) ∙ stands-same k (at (at k .parent)) (at k) (new (at k .parent) .newest) (new (at k .parent) .state) (new k .newest) (new k .state)
+      (λ i. stands k (rows .alike (rows .alike k i .parent) i) (rows .alike k i))
+      ∙ stands-same k (rowOf t (rowOf t k .parent)) (rowOf t k) (rowOf u (rowOf t k .parent) .newest) (rowOf u (rowOf t k .parent) .state) (rowOf u k .newest) (rowOf u k .state)
 
-  entries-kept : entriesSound n files at ≡ true → entriesSound n files new ≡ true
-  unfolding entriesSound entrySound
-  entries-kept h =
-      all-intro n _ (λ k l. and-both (ownSound files (new k)) (stands k (new (new k .parent)) (new k)) (own k l) (stands-kept k ∙ and-right (ownSound files (at k)) _ (all-at n k _ h l)))
-
-  pairs-kept : pairsSound n at ≡ true → pairsSound n new ≡ true
-  unfolding pairsSound
-  pairs-kept h = all-intro n _ (λ e l. all-intro e _ (λ d m. (λ i. pairSound (alike d i) (alike e i)) ∙ pair-same (at d) (at e) _ _ _ _ ∙ all-at e d _ (all-at n e _ h l) m))
+  rows-sound : (files : List ℕ) → ((d : ℕ) → d < entries t → ownSound (length files) (rowOf u d) ≡ true) → length u ≡ length t → soundTable t files ≡ true → soundTable u files ≡ true
+  unfolding soundTable soundBy entriesSound entrySound pairsSound
+  rows-sound files own size sound =
+      let n = entries t in
+      let both = and-right (lengthsSound (length t) (length files)) _ sound in
+      let one = and-left (entriesSound n (length files) (rowOf t)) _ both in
+      let two = and-right (entriesSound n (length files) (rowOf t)) _ both in
+      rw size
+      (and-both (lengthsSound (length t) (length files)) (soundBy n (length files) (rowOf u)) (and-left _ _ sound)
+      (and-both (entriesSound n (length files) (rowOf u)) (pairsSound n (rowOf u))
+      (all-intro n _ (λ k l. and-both (ownSound (length files) (rowOf u k)) _ (own k l) (stands-kept k ∙ and-right (ownSound (length files) (rowOf t k)) _ (all-at n k _ one l))))
+      (all-intro n _ (λ e l. all-intro e _ (λ d m. (λ i. pairSound (rows .alike d i) (rows .alike e i)) ∙ pair-same (rowOf t d) (rowOf t e) _ _ _ _ ∙ all-at e d _ (all-at n e _ two l) m)))))
 
 -- the k-th byte of an entry gets a value
 abbrev changed : List ℕ → ℕ → ℕ → ℕ → List ℕ
@@ -79,13 +103,13 @@ module _ (t : List ℕ) (e k v : ℕ) (here : e < entries t) (inside : k < 16) w
   fits : 16 * e + k + length (v ∷ []) ≤ length t
   fits = omega arith
 
-  pub changed-length : length (changed t e k v) ≡ length t
+  changed-length : length (changed t e k v) ≡ length t
   changed-length = write-length t (16 * e + k) (v ∷ []) fits
 
   pub changed-entries : entries (changed t e k v) ≡ entries t
   changed-entries = rw changed-length
 
-  pub row-other : (d : ℕ) → (d ≡ e → ⊥) → rowOf (changed t e k v) d ≡ rowOf t d
+  row-other : (d : ℕ) → (d ≡ e → ⊥) → rowOf (changed t e k v) d ≡ rowOf t d
   unfolding rowOf entry
   row-other d z =
       ap row
@@ -131,7 +155,6 @@ module _ (t : List ℕ) (e k v : ℕ) (here : e < entries t) (low : 9 ≤ k) (hi
       num : (i : ℕ) → i + 2 ≤ 16 → (i ≡ k → ⊥) × (i + 1 ≡ k → ⊥) → numAt (entry (changed t e k v) e) i ≡ numAt (entry t e) i
       num i h z = same-num t e k v here (omega arith) i h (z .0) (z .1)
 
-  -- every row is the same but for the two bytes
   pub row-alike : (d : ℕ) → rowOf (changed t e k v) d ≡ withBytes (rowOf t d) (rowOf (changed t e k v) d .newest) (rowOf (changed t e k v) d .state)
   row-alike d =
       elim (ℕ-discrete d e) [
@@ -139,23 +162,13 @@ module _ (t : List ℕ) (e k v : ℕ) (here : e < entries t) (low : 9 ≤ k) (hi
         | no z ↦ λ i. withBytes (row-other t e k v here (omega arith) d z i) (rowOf (changed t e k v) d .newest) (rowOf (changed t e k v) d .state)
       ]
 
-  -- a test that does not look at the two bytes says the same of every row
-  pub test-kept : {A : Type 0} (test : Row → A) → ((r : Row) (n s : ℕ) → test (withBytes r n s) ≡ test r) → (d : ℕ) → test (rowOf (changed t e k v) d) ≡ test (rowOf t d)
-  test-kept test blind d = ap test (row-alike d) ∙ blind (rowOf t d) _ _
+  pub changed-rows : Rows t (changed t e k v)
+  changed-rows = record { count = changed-entries t e k v here (omega arith); alike = row-alike }
 
   module _ (files : List ℕ) (sound : soundTable t files ≡ true) (file : isFile (rowOf t e) ≡ true) where
     kept : newestSound (rowOf t e) (rowOf (changed t e k v) e .newest) ≡ true → stateSound (rowOf (changed t e k v) e .state) ≡ true → soundTable (changed t e k v) files ≡ true
-    unfolding soundTable soundBy
-    kept new state =
-        rw (changed-length t e k v here (omega arith))
-        (and-both (lengthsSound (length t) (length files)) (soundBy (entries t) (length files) (rowOf (changed t e k v))) (and-left _ _ sound)
-        (and-both (entriesSound (entries t) (length files) (rowOf (changed t e k v))) (pairsSound (entries t) (rowOf (changed t e k v)))
-        (entries-kept (entries t) (length files) (rowOf t) (rowOf (changed t e k v)) row-alike own (and-left _ _ rows))
-        (pairs-kept (entries t) (length files) (rowOf t) (rowOf (changed t e k v)) row-alike own (and-right (entriesSound (entries t) (length files) (rowOf t)) _ rows))))
+    kept new state = rows-sound t (changed t e k v) changed-rows files own (changed-length t e k v here (omega arith)) sound
       where
-        rows : soundBy (entries t) (length files) (rowOf t) ≡ true
-        rows = and-right (lengthsSound (length t) (length files)) _ sound
-
         own : (d : ℕ) → d < entries t → ownSound (length files) (rowOf (changed t e k v) d) ≡ true
         own d l =
             elim (ℕ-discrete d e) [

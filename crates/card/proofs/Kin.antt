@@ -2,13 +2,13 @@
 use mathlib.Core.Path.{_≡_, refl, sym, ap, _∙_}
 use mathlib.Core.Bool.{Bool, true, false, false≢true, _&&_}
 use mathlib.Core.List.{List}
-use mathlib.Core.Logic.{_⊎_, inl, inr, ⊎-elim}
+use mathlib.Core.Logic.{⊎-elim}
 use Prim.Native.Nat.{ℕ, zero, suc, _+_, _-_, _≤_, _<_}
 use native.Mathlib.Nat.{le-refl}
 use native.Mathlib.Omega.{arith}
 use lib.Dec.{eqb}
 use borrow.Author.Tests.{eq-eqb, ne-eqb}
-use Rattle.octets.proofs.Picks.{and-left, and-right}
+use Rattle.octets.proofs.Picks.{either, and-left, on-test}
 use Rattle.card.specs.declared.Row.{Row}
 use Rattle.card.specs.declared.tree.Found.{Found}
 use Rattle.card.specs.declared.tree.Found.the-variants.{At, Nothing}
@@ -56,7 +56,7 @@ first-tells (suc n) b test e h = go (first-tells n (b + 1) test e) (test b) refl
         (omega arith, rw q at y)
     go later false y = let l = later (rw (firstFrom, y) at h) in (omega arith, l .1)
 
--- a child that is found: an entry of the table, a child of the directory, and the one that was looked for
+-- a child that is found: an entry of the table, and a child of the directory
 module _ (t : List ℕ) (directory : ℕ) (test : Row → Bool) (e : ℕ) (found : childWith t directory test ≡ At e) where
   tells : (e < entries t) × ((isChildOf directory (rowOf t e) && test (rowOf t e)) ≡ true)
   unfolding childWith
@@ -68,34 +68,26 @@ module _ (t : List ℕ) (directory : ℕ) (test : Row → Bool) (e : ℕ) (found
   pub child-child : isChildOf directory (rowOf t e) ≡ true
   child-child = and-left _ _ (tells .1)
 
-  pub child-passes : test (rowOf t e) ≡ true
-  child-passes = and-right (isChildOf directory (rowOf t e)) _ (tells .1)
-
 -- the way up in a table whose parents have smaller numbers, as those of a sound table have
-known : (b : Bool) → (b ≡ true) ⊎ (b ≡ false)
-known true = inl refl
-known false = inr refl
-
 module _ (t : List ℕ) (small : ParentsSmaller t) where
   same-root : (n e k : ℕ) → e < entries t → e ≤ n → e ≤ k → rootIn n t e ≡ rootIn k t e
   unfolding rootIn
   same-root zero e k here l m =
-      ⊎-elim (root-here k t e) (λ f. let p = small e here f in absurd (omega arith)) (known (isRoot (rowOf t e)))
+      ⊎-elim (root-here k t e) (λ f. let p = small e here f in absurd (omega arith)) (either (isRoot (rowOf t e)))
   same-root (suc n) e k here l m =
       ⊎-elim
       (λ y. sym (root-here (suc n) t e y) ∙ root-here k t e y)
       (λ f. let p = small e here f in rw (rootIn, f) (root-above k t e _ f p m (λ j q. same-root n (rowOf t e .parent) j (omega arith) (omega arith) q)))
-      (known (isRoot (rowOf t e)))
+      (either (isRoot (rowOf t e)))
 
   root-facts : (n e : ℕ) → e < entries t → e ≤ n → (rootIn n t e ≤ e) × (isRoot (rowOf t (rootIn n t e)) ≡ true)
   unfolding rootIn
   root-facts zero e here l =
-      (omega arith, ⊎-elim (λ y. y) (λ f. let p = small e here f in absurd (omega arith)) (known (isRoot (rowOf t e))))
+      (omega arith, ⊎-elim (λ y. y) (λ f. let p = small e here f in absurd (omega arith)) (either (isRoot (rowOf t e))))
   root-facts (suc n) e here l =
-      ⊎-elim
-      (λ (y : isRoot (rowOf t e) ≡ true). rw (rootIn, y) (omega arith, y))
-      (λ (f : isRoot (rowOf t e) ≡ false). let p = small e here f in let up = root-facts n (rowOf t e .parent) (omega arith) (omega arith) in rw (rootIn, f) (omega arith, up .1))
-      (known (isRoot (rowOf t e)))
+      on-test (λ (r : ℕ). (r ≤ e) × (isRoot (rowOf t r) ≡ true)) (isRoot (rowOf t e)) e (rootIn n t (rowOf t e .parent))
+      (λ y. (omega arith, y))
+      (λ f. let p = small e here f in let up = root-facts n (rowOf t e .parent) (omega arith) (omega arith) in (omega arith, up .1))
 
   pub root-itself : (e : ℕ) → isRoot (rowOf t e) ≡ true → rootOf t e ≡ e
   unfolding rootOf
@@ -107,10 +99,6 @@ module _ (t : List ℕ) (small : ParentsSmaller t) where
       let p = small e here f in
       sym (root-above e t e _ f p (le-refl e) (λ j q. same-root (rowOf t e .parent) (rowOf t e .parent) j (omega arith) (omega arith) q))
 
-  pub root-inside : (e : ℕ) → e < entries t → rootOf t e < entries t
-  unfolding rootOf
-  root-inside e here = let f = root-facts e e here (le-refl e) in omega arith
-
   pub root-is-root : (e : ℕ) → e < entries t → isRoot (rowOf t (rootOf t e)) ≡ true
   unfolding rootOf
   root-is-root e here = root-facts e e here (le-refl e) .1
@@ -121,4 +109,4 @@ module _ (t : List ℕ) (small : ParentsSmaller t) where
       ⊎-elim
       (λ (y : isRoot (rowOf t e) ≡ true). eq-eqb (rootOf t e) e (root-itself e y) ∙ sym y)
       (λ (f : isRoot (rowOf t e) ≡ false). ne-eqb (rootOf t e) e (λ same. false≢true (sym f ∙ ap (λ k. isRoot (rowOf t k)) (sym same) ∙ root-is-root e here)) ∙ sym f)
-      (known (isRoot (rowOf t e)))
+      (either (isRoot (rowOf t e)))

@@ -1,6 +1,6 @@
 -- What the soundness of a table over a file memory promises, one promise at a time. Assumes nothing.
 use mathlib.Core.Path.{_≡_, refl, sym, _∙_}
-use mathlib.Core.Bool.{Bool, true, false, not, _&&_, _||_, and-false, and-comm, or-comm, false≢true}
+use mathlib.Core.Bool.{Bool, true, false, not, _&&_, and-false, and-comm, or-comm, false≢true}
 use mathlib.Core.List.{List}
 use mathlib.Core.Logic.{_⊎_, inl, inr, ⊎-elim}
 use Prim.Native.Nat.{ℕ, _+_, _*_, _%_, _≤_, _<_}
@@ -11,7 +11,7 @@ use lib.Dec.{leb, ltb, eqb}
 use lib.ListN.{length}
 use borrow.Author.Tests.{leb-true, leb-false, ltb-true, eqb-true, eqb-false, eq-eqb, ne-eqb, lt-leb, le-leb}
 use Rattle.octets.specs.Choice.{pick}
-use Rattle.octets.proofs.Picks.{pick-true, pick-false, and-left, and-right, all-at}
+use Rattle.octets.proofs.Picks.{pick-true, pick-false, and-left, and-right, or-either, all-at}
 use Rattle.card.specs.declared.Row.{Row}
 use Rattle.card.specs.Row.{entries, rowOf, isMF, isADF, isTransparent, isCyclic, isDirectory, isFile, hasRecords, canBeChild}
 use Rattle.card.specs.Sound.{recordCount, rootSound, placeSound, nameSound, directorySound, newestSound, stateSound, recordsSound, fileSound, ownSound, entrySound, namedApart, pairSound, entriesSound, pairsSound, soundBy, lengthsSound, soundTable}
@@ -32,10 +32,6 @@ module _ {whole : Bool} (e : whole ≡ true) where
   equal : (a b : ℕ) → (eqb a b ≡ false → whole ≡ false) → a ≡ b
   equal a b f = eqb-true a b (shown (eqb a b) f)
 
-either : (a b : Bool) → (a || b) ≡ true → (a ≡ true) ⊎ (b ≡ true)
-either true b h = inl refl
-either false b h = inr h
-
 -- kinds
 pub file-kind : (r : Row) → isFile r ≡ true → (4 ≤ r .kind) × (r .kind ≤ 6)
 file-kind r h = (at-most h 4 (r .kind) (λ n. rw n), at-most h (r .kind) 6 (λ n. simp (n, and-false)))
@@ -50,7 +46,7 @@ pub kind-is-file : (r : Row) → 4 ≤ r .kind → r .kind ≤ 6 → isFile r �
 kind-is-file r h g = rw (le-leb 4 (r .kind) h, le-leb (r .kind) 6 g)
 
 pub records-kind : (r : Row) → hasRecords r ≡ true → (r .kind ≡ 5) ⊎ (r .kind ≡ 6)
-records-kind r h = ⊎-elim (λ l. inl (eqb-true (r .kind) 5 l)) (λ c. inr (eqb-true (r .kind) 6 c)) (either (eqb (r .kind) 5) (eqb (r .kind) 6) h)
+records-kind r h = ⊎-elim (λ l. inl (eqb-true (r .kind) 5 l)) (λ c. inr (eqb-true (r .kind) 6 c)) (or-either (eqb (r .kind) 5) (eqb (r .kind) 6) h)
 
 pub records-file : (r : Row) → hasRecords r ≡ true → isFile r ≡ true
 records-file r h = ⊎-elim (λ k. rw k) (λ k. rw k) (records-kind r h)
@@ -131,7 +127,7 @@ module _ (files : ℕ) (r : Row) (own : ownSound files r ≡ true) (file : isFil
   file-state = shown file-rules (stateSound (r .state)) (λ n. simp (n, and-false))
 
   pub state-known : (r .state ≡ 4) ⊎ (r .state ≡ 5)
-  state-known = ⊎-elim (λ h. inl (eqb-true (r .state) 4 h)) (λ h. inr (eqb-true (r .state) 5 h)) (either (eqb (r .state) 4) (eqb (r .state) 5) file-state)
+  state-known = ⊎-elim (λ h. inl (eqb-true (r .state) 4 h)) (λ h. inr (eqb-true (r .state) 5 h)) (or-either (eqb (r .state) 4) (eqb (r .state) 5) file-state)
 
   pub file-newest : newestSound r (r .newest) ≡ true
   unfolding fileSound
@@ -284,7 +280,7 @@ module _ (t files : List ℕ) (sound : soundTable t files ≡ true) where
       ⊎-elim
       (λ h. inl (leb-true _ _ h))
       (λ h. inr (leb-true _ _ h))
-      (either (leb (rowOf t d .start + rowOf t d .size) (rowOf t e .start)) (leb (rowOf t e .start + rowOf t e .size) (rowOf t d .start)) (and-right (namedApart (rowOf t d) (rowOf t e)) _ (pair d e there here z)))
+      (or-either (leb (rowOf t d .start + rowOf t d .size) (rowOf t e .start)) (leb (rowOf t e .start + rowOf t e .size) (rowOf t d .start)) (and-right (namedApart (rowOf t d) (rowOf t e)) _ (pair d e there here z)))
 
   -- two children of one parent that have one identifier are one
   pub one-child : (d e : ℕ) → d < entries t → e < entries t → canBeChild (rowOf t d) ≡ true → canBeChild (rowOf t e) ≡ true → rowOf t d .parent ≡ rowOf t e .parent → rowOf t d .identifier ≡ rowOf t e .identifier → d ≡ e

@@ -16,7 +16,7 @@ use Rattle.journal.specs.Sound.{mostScripts, entrySound, allSound, oldes
 use Rattle.journal.specs.Changes.{pushed, cutBack}
 use Rattle.journal.proofs.Entries.{Reading}
 use Rattle.journal.proofs.Pushed.{pushed-length, pushed-head, pushed-rest, pushed-scripts, pushed-used, pushed-entries}
-use Rattle.journal.proofs.Parts.{Parts}
+use Rattle.journal.proofs.Parts.{Parts, used-inside}
 use Rattle.journal.proofs.Cut.{cut-length, cut-head, cut-rest, cut-scripts, cut-used, cut-entries}
 use Rattle.journal.proofs.Forms.{Alike, alike-all}
 
@@ -55,7 +55,7 @@ module _ (t files j : List ℕ) (p : Parts t files j) (u s : ℕ) {es : List Ent
   unfolding room
   cut-parts few sound oldest count =
       let short : length j ≤ 65535 = omega (arith, p .size) in
-      let f : headSize + u ≤ length j = omega (arith, p .size, p .used) in
+      let f : headSize + u ≤ length j = omega (arith, used-inside t files j p) in
       let l = cut-length j u s f in
       let x = cut-used j u s f short in
       let y = cut-scripts j u s f in

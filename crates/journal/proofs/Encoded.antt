@@ -10,12 +10,12 @@ use Rattle.octets.specs.Choice.{pick}
 use Rattle.octets.specs.Bytes.{part, zeros}
 use Rattle.octets.proofs.Picks.{and-left, and-right}
 use Rattle.octets.proofs.Same.{zero-true}
-use Rattle.journal.specs.Entries.{Entry, headSize, usedBytes, scriptsOnTrial, room, entryBytes, encode, tailAt, entryAt, noEntry, entriesOf}
-use Rattle.journal.specs.Sound.{formSound, entrySound, allSound, soundJournal}
+use Rattle.journal.specs.Entries.{Entry, headSize, usedBytes, scriptsOnTrial, entryBytes, encode, tailAt, entryAt, noEntry, entriesOf}
+use Rattle.journal.specs.Sound.{formSound, entrySound, allSound}
 use Rattle.journal.specs.Changes.{bytesTaken, cutBack}
 use Rattle.journal.proofs.Entries.{Reading, none, stop, more, before, read-all}
 use Rattle.journal.proofs.Tails.{begins, old-length, entry-bytes}
-use Rattle.journal.proofs.Parts.{parts}
+use Rattle.journal.proofs.Parts.{Parts, used-inside}
 
 -- the bytes of entries, newest first, as they stand: the newest last
 unfoldable pub encodeAll : List Entry → List ℕ
@@ -26,6 +26,7 @@ no-entry : (t : List ℕ) (files : ℕ) → entrySound t files noEntry ≡ false
 unfolding entrySound formSound noEntry pick
 no-entry t files = refl
 
+-- sound entries take the bytes that they were read from, and these bytes are theirs
 module _ (t : List ℕ) (files : ℕ) (j : List ℕ) where
   pub taken-all : {u : ℕ} {es : List Entry} → Reading j u es → headSize + u ≤ length j → allSound t files es ≡ true → bytesTaken es ≡ u
   unfolding bytesTaken allSound
@@ -49,21 +50,17 @@ module _ (t : List ℕ) (files : ℕ) (j : List ℕ) where
       ∙ (λ i. x i ++ take n (drop-drop (before j u) headSize j i))
       ∙ ap (λ (bs : List ℕ). encodeAll es ++ bs) (entry-bytes j u r fits)
 
-module _ (t files j : List ℕ) (sound : soundJournal t files j ≡ true) where
-  pub all-fits : headSize + usedBytes j ≤ length j
-  unfolding room
-  all-fits = let p = parts t files j sound in omega arith
-
+-- all of a sound journal's: cut back to them it is itself
+module _ (t files j : List ℕ) (p : Parts t files j) where
   pub sound-encoded : part j headSize (usedBytes j) ≡ encodeAll (entriesOf j)
-  sound-encoded = encoded t (length files) j (read-all j) all-fits (parts t files j sound .sound)
+  sound-encoded = encoded t (length files) j (read-all j) (used-inside t files j p) (p .sound)
 
   pub sound-taken : bytesTaken (entriesOf j) ≡ usedBytes j
-  sound-taken = taken-all t (length files) j (read-all j) all-fits (parts t files j sound .sound)
+  sound-taken = taken-all t (length files) j (read-all j) (used-inside t files j p) (p .sound)
 
   pub sound-cut : cutBack j (usedBytes j) (scriptsOnTrial j) ≡ j
   unfolding cutBack
   sound-cut =
-      let p = parts t files j sound in
       let u = usedBytes j in
       let z : drop u (drop headSize j) ≡ zeros (length j - (headSize + u)) =
       drop-drop u headSize j ∙ zero-true (drop (headSize + u) j) (p .rest) ∙ ap zeros (length-drop (headSize + u) j) in

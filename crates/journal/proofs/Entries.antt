@@ -1,21 +1,18 @@
--- Reading a journal's entries back: step by step, with no more steps than bytes, and from no other bytes than theirs. Assumes nothing.
+-- Reading a journal's entries back: step by step, and from no other bytes than theirs. Assumes nothing.
 use mathlib.Core.Path.{_≡_, refl, sym, ap, _∙_}
-use mathlib.Core.Bool.{Bool, true, false, false≢true}
+use mathlib.Core.Bool.{true, false, false≢true}
 use mathlib.Core.List.{List, [], _∷_}
-use mathlib.Core.Logic.{_⊎_, inl, inr, ⊎-elim}
+use mathlib.Core.Logic.{⊎-elim}
 use Prim.Native.Nat.{ℕ, zero, suc, _+_, _-_, _≤_, _<_}
 use native.Mathlib.Nat.{eq-or-lt-of-le, le-refl}
 use native.Mathlib.Omega.{arith}
 use borrow.Author.Tests.{leb-true, ne-eqb}
 use Rattle.octets.specs.Bytes.{part}
 use Rattle.octets.proofs.Picks.{and-left, refuted}
+pub use Rattle.octets.proofs.Picks.{either}
 use Rattle.octets.proofs.Writes.{part-part}
+use Rattle.journal.specs.declared.Tail.{Tail}
 use Rattle.journal.specs.Entries.{Entry, headSize, usedBytes, tailSize, entryBytes, tailBytes, tailIn, tailAt, formed, oldPlace, entryAt, readable, noEntry, entriesBack, entriesOf}
-
--- a test holds or it does not
-pub either : (b : Bool) → (b ≡ true) ⊎ (b ≡ false)
-either true = inl refl
-either false = inr refl
 
 -- where the entry begins that ends where the first u bytes of entries end
 abbrev pub before : List ℕ → ℕ → ℕ
@@ -47,6 +44,9 @@ pub count-fits : (j : List ℕ) (u : ℕ) → readable j u ≡ true → entryByt
 unfolding readable
 count-fits j u h = leb-true _ _ (and-left _ (formed (tailBytes j u)) h)
 
+pub readable-fits : (j : List ℕ) (u : ℕ) {l : Tail} → l ≡ tailAt j u → readable j u ≡ true → entryBytes (l .count) ≤ u
+readable-fits j u e h = rw e (count-fits j u h)
+
 -- what is read back is what the bytes hold, and nothing else is
 pub read : (n : ℕ) (j : List ℕ) (u : ℕ) → u ≤ n → Reading j u (entriesBack n j u)
 read zero j u h = let e : u ≡ 0 = omega arith in rw (e, back-none 0 j) none
@@ -73,9 +73,12 @@ pub read-all : (j : List ℕ) → Reading j (usedBytes j) (entriesOf j)
 unfolding entriesOf
 read-all j = read (usedBytes j) j (usedBytes j) (le-refl (usedBytes j))
 
--- more steps than bytes change nothing
-pub fuel : (n : ℕ) (j : List ℕ) (u : ℕ) → u ≤ n → entriesBack n j u ≡ entriesBack u j u
-fuel n j u h = read-only n h (read u j u (le-refl u))
+-- the entries of the first u bytes: the newest and those before it
+pub back-stuck : (j : List ℕ) (u : ℕ) → 0 < u → readable j u ≡ false → entriesBack u j u ≡ noEntry ∷ []
+back-stuck j u some h = read-only u (le-refl u) (stop some h)
+
+pub back-next : (j : List ℕ) (u : ℕ) → readable j u ≡ true → entriesBack u j u ≡ entryAt j u ∷ entriesBack (before j u) j (before j u)
+back-next j u h = read-only u (le-refl u) (more h (read (before j u) j (before j u) (le-refl (before j u))))
 
 -- the entries depend on no other bytes
 module _ (j k : List ℕ) (u : ℕ) (alike : part j headSize u ≡ part k headSize u) where
@@ -116,6 +119,3 @@ same-reading j k e (stop {u} p r) = stop p (refuted (readable k u) (λ t. false�
 same-reading j k e (more {u} {es} r rest) =
     rw (same-entry j k u e r)
     (more {es = es} (same-readable j k u e r) (rw (same-tail j k u e r) at (same-reading j k (part-before-same j k u e r) rest)))
-
-pub same-entries : (n : ℕ) (j k : List ℕ) (u : ℕ) → u ≤ n → part j headSize u ≡ part k headSize u → entriesBack n j u ≡ entriesBack n k u
-same-entries n j k u h e = sym (read-only n h (same-reading j k e (read n j u h)))

@@ -1,5 +1,5 @@
--- A memory that gets bytes of a sound form: they fit, the table stays sound, and the same forms stay sound. Assumes nothing.
-use mathlib.Core.Path.{_≡_, refl, sym, ap, _∙_}
+-- A memory that gets bytes of a sound form: they fit, the table stays sound, its rows stay alike, and the same forms stay sound. Assumes nothing.
+use mathlib.Core.Path.{_≡_, refl, ap, _∙_}
 use mathlib.Core.Bool.{Bool, true, false, _&&_}
 use mathlib.Core.List.{List, [], _∷_}
 use mathlib.Core.Logic.{⊎-elim}
@@ -11,27 +11,38 @@ use lib.ListN.{length}
 use borrow.Author.Tests.{leb-true, eqb-true}
 use Rattle.octets.specs.Choice.{pick}
 use Rattle.octets.specs.Bytes.{byte, part, overwrite}
-use Rattle.octets.proofs.Picks.{and-left, and-right, and-both, pick-true, pick-false}
+use Rattle.octets.proofs.Picks.{on-pick, either, and-left, and-right, and-both}
 use Rattle.octets.proofs.Writes.{write-length}
 use Rattle.octets.proofs.Numbers.{byte-part}
 use Rattle.card.specs.Row.{Card}
 use Rattle.card.specs.Sound.{soundTable}
-use Rattle.card.proofs.Kept.{sound-length}
+use Rattle.card.proofs.Kept.{Rows, rows-same, rows-both, sound-length}
 use Rattle.journal.specs.Entries.{Entry, isMark}
 use Rattle.journal.specs.Sound.{tablePlaceSound, formSound, entrySound, allSound}
 use Rattle.journal.specs.Changes.{Memory, fileMemory, tableMemory, memoryOf, withMemory, kindFor, memoryFor, restoreOne, restore, sinceMark}
-use Rattle.journal.proofs.Entries.{either}
 use Rattle.journal.proofs.Memories.{put}
-use Rattle.journal.proofs.Table.{place-fits, form-kept, table-kept, old-sound}
+use Rattle.journal.proofs.Table.{form-kept, place-fits, table-rows, table-kept, old-sound}
 
--- a card with a sound table, beside which the same forms are sound as beside another card's
+-- a card with a sound table whose rows are another's but for the two bytes, and a file memory as long
 pub record Alike (c d : Card) : Type 0 where
   pub table : soundTable (d .table) (d .files) ≡ true
-  pub forms : (kind place n old : ℕ) → formSound (d .table) (length (d .files)) kind place n old ≡ formSound (c .table) (length (c .files)) kind place n old
+  pub rows : Rows (c .table) (d .table)
+  pub files : length (d .files) ≡ length (c .files)
+
+pub alike-same : (c : Card) → soundTable (c .table) (c .files) ≡ true → Alike c c
+alike-same c sound = record { table = sound; rows = rows-same (c .table); files = refl }
+
+pub alike-both : (c d e : Card) → Alike c d → Alike d e → Alike c e
+alike-both c d e a b =
+    record { table = b .table; rows = rows-both (c .table) (d .table) (e .table) (a .rows) (b .rows); files = b .files ∙ a .files }
+
+-- beside it the same forms and entries are sound
+pub alike-form : (c d : Card) → Alike c d → (kind place n old : ℕ) → formSound (d .table) (length (d .files)) kind place n old ≡ formSound (c .table) (length (c .files)) kind place n old
+alike-form c d a kind place n old = rw (a .files) (form-kept (c .table) (d .table) (a .rows) (length (c .files)) kind place n old)
 
 pub alike-entry : (c d : Card) → Alike c d → (e : Entry) → entrySound (d .table) (length (d .files)) e ≡ entrySound (c .table) (length (c .files)) e
 unfolding entrySound
-alike-entry c d a e = a .forms (e .kind) (e .place) (length (e .old)) (byte (e .old) 0)
+alike-entry c d a e = alike-form c d a (e .kind) (e .place) (length (e .old)) (byte (e .old) 0)
 
 pub alike-all : (c d : Card) → Alike c d → (es : List Entry) → allSound (d .table) (length (d .files)) es ≡ allSound (c .table) (length (c .files)) es
 unfolding allSound
@@ -74,15 +85,15 @@ module _ (c : Card) (place : ℕ) (d : List ℕ) where
         let l = write-length (c .files) place d (in-files ok) in
         record {
           table = sound-length (c .table) (overwrite (c .files) place d) (c .files) l ∙ sound;
-          forms = λ kind p n old. ap (λ (files : ℕ). formSound (c .table) files kind p n old) l;
+          rows = rows-same (c .table);
+          files = l;
         }
     put-alike tableMemory ok =
         let b = one-byte d (one ok) in
         record {
           table = ap (λ (v : List ℕ). soundTable (overwrite (c .table) place v) (c .files)) b ∙ table-kept (c .table) place (byte d 0) (at-place ok) (c .files) sound;
-          forms = λ kind p n old.
-              ap (λ (v : List ℕ). formSound (overwrite (c .table) place v) (length (c .files)) kind p n old) b
-              ∙ form-kept (c .table) place (byte d 0) (at-place ok) (length (c .files)) kind p n old;
+          rows = rw (← b) at (table-rows (c .table) place (byte d 0) (at-place ok));
+          files = refl;
         }
 
     -- and the old bytes there are of a sound form too
@@ -96,24 +107,11 @@ module _ (c : Card) (place : ℕ) (d : List ℕ) where
         ∙ old-sound (c .table) place (byte d 0) (at-place ok) (c .files) sound)
 
 -- entries given back, the newest first, down to the newest mark
-pub alike-same : (c : Card) → soundTable (c .table) (c .files) ≡ true → Alike c c
-alike-same c sound = record { table = sound; forms = λ kind place n old. refl }
-
-alike-both : (c d e : Card) → Alike c d → Alike d e → Alike c e
-alike-both c d e a b =
-    record { table = b .table; forms = λ kind place n old. b .forms kind place n old ∙ a .forms kind place n old }
-
 kind-of : (k : ℕ) (x y z : Bool) → eqb k 1 ≡ false → pick (eqb k 1) x (pick (eqb k 2) y (eqb k 3 && z)) ≡ true → kindFor (pick (eqb k 3) tableMemory fileMemory) ≡ k
-kind-of k x y z other h = ⊎-elim (λ e. two (eqb-true k 2 e)) (λ e. three (eqb-true k 3 (and-left _ _ (sym (pick-false (eqb k 2) y (eqb k 3 && z) e) ∙ rest)))) (either (eqb k 2))
-  where
-    rest : pick (eqb k 2) y (eqb k 3 && z) ≡ true
-    rest = sym (pick-false (eqb k 1) x (pick (eqb k 2) y (eqb k 3 && z)) other) ∙ h
-
-    two : k ≡ 2 → kindFor (pick (eqb k 3) tableMemory fileMemory) ≡ k
-    two e = unfold kindFor pick in rw e
-
-    three : k ≡ 3 → kindFor (pick (eqb k 3) tableMemory fileMemory) ≡ k
-    three e = unfold kindFor pick in rw e
+unfolding kindFor pick
+kind-of k x y z other h =
+    let rest : pick (eqb k 2) y (eqb k 3 && z) ≡ true = rw other at h in
+    ⊎-elim (λ e. rw (eqb-true k 2 e)) (λ e. rw (eqb-true k 3 (and-left (eqb k 3) z (rw e at rest)))) (either (eqb k 2))
 
 module _ (c : Card) (e : Entry) (ok : entrySound (c .table) (length (c .files)) e ≡ true) (other : isMark e ≡ false) where
   entry-kind : kindFor (memoryFor e) ≡ e .kind
@@ -135,10 +133,8 @@ pub restore-alike : (es : List Entry) (c : Card) → soundTable (c .table) (c .f
 unfolding restore allSound sinceMark
 restore-alike [] c sound all = alike-same c sound
 restore-alike (e ∷ es) c sound all =
-    ⊎-elim
-    (λ m. rw (pick-true (isMark e) [] (e ∷ sinceMark es) m) (alike-same c sound))
+    on-pick (λ (fs : List Entry). Alike c (restore fs c)) (isMark e) [] (e ∷ sinceMark es)
+    (λ m. alike-same c sound)
     (λ m. let a = restore-one c e (and-left _ _ all) m sound in
-    rw (pick-false (isMark e) [] (e ∷ sinceMark es) m)
-    (alike-both c (restoreOne e c) (restore (sinceMark es) (restoreOne e c)) a
-    (restore-alike es (restoreOne e c) (a .table) (alike-all c (restoreOne e c) a es ∙ and-right (entrySound (c .table) (length (c .files)) e) _ all))))
-    (either (isMark e))
+    alike-both c (restoreOne e c) (restore (sinceMark es) (restoreOne e c)) a
+    (restore-alike es (restoreOne e c) (a .table) (alike-all c (restoreOne e c) a es ∙ and-right (entrySound (c .table) (length (c .files)) e) _ all)))

@@ -1,4 +1,6 @@
 pub mod Steps
+pub mod Tested
+pub mod GivenBack
 pub mod Entries
 pub mod Tails
 pub mod Memories

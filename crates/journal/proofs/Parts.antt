@@ -3,6 +3,7 @@ use mathlib.Core.Path.{_≡_}
 use mathlib.Core.Bool.{true}
 use mathlib.Core.List.{List}
 use Prim.Native.Nat.{ℕ, _+_, _≤_}
+use native.Mathlib.Omega.{arith}
 use lib.Dec.{leb, eqb}
 use lib.ListN.{length, drop}
 use borrow.Author.Tests.{leb-true, le-leb, eqb-true, eq-eqb}
@@ -14,6 +15,7 @@ use Rattle.card.specs.Sound.{soundTable}
 use Rattle.journal.specs.Entries.{headSize, head, usedBytes, scriptsOnTrial, room, entriesOf}
 use Rattle.journal.specs.Sound.{journalLength, mostScripts, headSound, allSound, oldestIsMark, marks, entriesSound, soundJournal, soundCard}
 
+-- what a journal's soundness promises beside a table and a file memory
 pub record Parts (t files j : List ℕ) : Type 0 where
   pub size : length j ≡ journalLength
   pub begins : part j 0 headSize ≡ head (usedBytes j) (scriptsOnTrial j) 0
@@ -24,8 +26,9 @@ pub record Parts (t files j : List ℕ) : Type 0 where
   pub oldest : oldestIsMark (entriesOf j) ≡ true
   pub marked : marks (entriesOf j) ≡ scriptsOnTrial j
 
+-- one gives the other
 module _ (t files j : List ℕ) where
-  pub parts : soundJournal t files j ≡ true → Parts t files j
+  parts : soundJournal t files j ≡ true → Parts t files j
   unfolding soundJournal headSound entriesSound
   parts h =
       let inner = and-right (eqb (length j) journalLength) _ h in
@@ -45,23 +48,25 @@ module _ (t files j : List ℕ) where
         marked = eqb-true (marks (entriesOf j)) (scriptsOnTrial j) (and-right (oldestIsMark (entriesOf j)) _ three);
       }
 
-  pub whole : Parts t files j → soundJournal t files j ≡ true
+  whole : Parts t files j → soundJournal t files j ≡ true
   unfolding soundJournal headSound entriesSound
   whole p =
       rw (eq-eqb (length j) journalLength (p .size), p .begins, same-refl (head (usedBytes j) (scriptsOnTrial j) 0), le-leb (usedBytes j) (room j) (p .used), le-leb (scriptsOnTrial j) mostScripts (p .scripts), p .rest, p .sound, p .oldest)
       (eq-eqb (marks (entriesOf j)) (scriptsOnTrial j) (p .marked))
+
+-- the used bytes lie inside the journal
+pub used-inside : (t files j : List ℕ) → Parts t files j → headSize + usedBytes j ≤ length j
+unfolding room
+used-inside t files j p = omega (arith, p .size, p .used)
 
 module _ (c : Card) where
   pub card-table : soundCard c ≡ true → soundTable (c .table) (c .files) ≡ true
   unfolding soundCard
   card-table h = and-left _ _ h
 
-  pub card-journal : soundCard c ≡ true → soundJournal (c .table) (c .files) (c .journal) ≡ true
-  unfolding soundCard
-  card-journal h = and-right (soundTable (c .table) (c .files)) _ h
-
   pub card-parts : soundCard c ≡ true → Parts (c .table) (c .files) (c .journal)
-  card-parts h = parts (c .table) (c .files) (c .journal) (card-journal h)
+  unfolding soundCard
+  card-parts h = parts (c .table) (c .files) (c .journal) (and-right (soundTable (c .table) (c .files)) _ h)
 
   pub card-whole : soundTable (c .table) (c .files) ≡ true → Parts (c .table) (c .files) (c .journal) → soundCard c ≡ true
   unfolding soundCard

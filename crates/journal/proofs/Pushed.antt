@@ -84,33 +84,38 @@ module _ (j : List ℕ) (s : ℕ) (e : Entry) (fits : headSize + usedBytes j + l
         (next-reading (pushed j s e) (usedBytes j) e pushed-entry near (omega arith)
         (same-reading j (pushed j s e) (sym pushed-kept) (read-all j))))
 
+-- a journal that holds one more entry than another, with so many scripts on trial
+pub record Grown (j k : List ℕ) (s : ℕ) (e : Entry) : Type 0 where
+  pub size : length k ≡ length j
+  pub scripts : scriptsOnTrial k ≡ s
+  pub kept : part k headSize (usedBytes j) ≡ part j headSize (usedBytes j)
+  pub used : usedBytes k ≡ usedBytes j + entryBytes (length (e .old))
+  pub entries : entriesOf k ≡ e ∷ entriesOf j
+
+pub pushed-grown : (j : List ℕ) (s : ℕ) (e : Entry) → headSize + usedBytes j + length (encode e) ≤ length j → length j ≤ 65535 → e .place < 65536 → Grown j (pushed j s e) s e
+pushed-grown j s e fits short near =
+    record {
+      size = pushed-length j s e fits;
+      scripts = pushed-scripts j s e fits;
+      kept = pushed-kept j s e fits;
+      used = rw (← (encode-length e)) (pushed-used j s e fits short);
+      entries = pushed-entries j s e fits short near;
+    }
+
+-- a journal has room for so many bytes more
+abbrev pub HasRoom : List ℕ → ℕ → Type 0
+HasRoom j n = usedBytes j + n ≤ room j
+
 -- one more mark
-module _ (j : List ℕ) (left : usedBytes j + entryBytes 0 ≤ room j) where
-  mark-takes : length (encode mark) ≡ entryBytes 0
-  unfolding mark
-  mark-takes = encode-length mark
-
+module _ (j : List ℕ) (left : HasRoom j (entryBytes 0)) where
   pub mark-fits : headSize + usedBytes j + length (encode mark) ≤ length j
-  unfolding room
-  mark-fits = rw mark-takes (omega arith)
-
-  pub marked-length : length (marked j) ≡ length j
-  unfolding marked
-  marked-length = pushed-length j (scriptsOnTrial j + 1) mark mark-fits
+  unfolding room mark
+  mark-fits = rw (encode-length mark) (omega arith)
 
   pub marked-scripts : scriptsOnTrial (marked j) ≡ scriptsOnTrial j + 1
   unfolding marked
   marked-scripts = pushed-scripts j (scriptsOnTrial j + 1) mark mark-fits
 
-  pub marked-kept : part (marked j) headSize (usedBytes j) ≡ part j headSize (usedBytes j)
-  unfolding marked
-  marked-kept = pushed-kept j (scriptsOnTrial j + 1) mark mark-fits
-
-  module _ (short : length j ≤ 65535) where
-    pub marked-used : usedBytes (marked j) ≡ usedBytes j + entryBytes 0
-    unfolding marked
-    marked-used = rw mark-takes at (pushed-used j (scriptsOnTrial j + 1) mark mark-fits short)
-
-    pub marked-entries : entriesOf (marked j) ≡ mark ∷ entriesOf j
-    unfolding marked mark
-    marked-entries = pushed-entries j (scriptsOnTrial j + 1) mark mark-fits short (omega arith)
+  pub marked-grown : length j ≤ 65535 → Grown j (marked j) (scriptsOnTrial j + 1) mark
+  unfolding marked mark
+  marked-grown short = pushed-grown j (scriptsOnTrial j + 1) mark mark-fits short (omega arith)

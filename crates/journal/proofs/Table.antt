@@ -1,4 +1,4 @@
--- A table byte that gets a value sound there: the table stays sound, and what an entry may be stays the same. Assumes nothing.
+-- A table byte that gets a value sound there: the table stays sound, its rows stay alike, and with them what an entry may be. Assumes nothing.
 use mathlib.Core.Path.{_≡_, refl, sym, ap, _∙_}
 use mathlib.Core.Bool.{true, _&&_}
 use mathlib.Core.List.{List, [], _∷_}
@@ -10,15 +10,14 @@ use lib.ListN.{length}
 use borrow.Author.Tests.{ltb-true, eqb-true}
 use Rattle.octets.specs.Choice.{pick}
 use Rattle.octets.specs.Bytes.{byte, overwrite}
-use Rattle.octets.proofs.Picks.{pick-true, pick-false, and-left, and-right, and-both}
+use Rattle.octets.proofs.Picks.{either, and-left, and-right, and-both}
 use Rattle.octets.proofs.Numbers.{byte-part}
 use Rattle.card.specs.declared.Row.{Row}
 use Rattle.card.specs.Row.{entries, entry, row, rowOf, isCyclic, isFile}
 use Rattle.card.specs.Sound.{newestSound, stateSound, soundTable}
 use Rattle.card.proofs.Promises.{cyclic-records, records-file, file-state, file-newest, entry-own}
-use Rattle.card.proofs.Kept.{withBytes, changed-entries, test-kept, newest-kept, state-kept}
+use Rattle.card.proofs.Kept.{withBytes, Rows, test-kept, changed-rows, newest-kept, state-kept}
 use Rattle.journal.specs.Sound.{tableByteSound, tablePlaceSound, formSound}
-use Rattle.journal.proofs.Entries.{either}
 
 -- what a table byte may be: the state of a file, or the newest record of a cyclic file
 data SoundByte (r : Row) (at v : ℕ) : Type 0 where
@@ -27,12 +26,12 @@ data SoundByte (r : Row) (at v : ℕ) : Type 0 where
 
 module _ (r : Row) (at v : ℕ) where
   told : tableByteSound r at v ≡ true → SoundByte r at v
-  unfolding tableByteSound
+  unfolding tableByteSound pick
   told h =
       ⊎-elim
-      (λ e. let k = pick-true (eqb at 10) (isFile r && stateSound v) (eqb at 9 && (isCyclic r && newestSound r v)) e in
-      asState (eqb-true at 10 e) (and-left _ _ (sym k ∙ h)) (and-right (isFile r) _ (sym k ∙ h)))
-      (λ e. let k = sym (pick-false (eqb at 10) (isFile r && stateSound v) (eqb at 9 && (isCyclic r && newestSound r v)) e) ∙ h in
+      (λ e. let k : (isFile r && stateSound v) ≡ true = rw e at h in
+      asState (eqb-true at 10 e) (and-left _ _ k) (and-right (isFile r) _ k))
+      (λ e. let k : (eqb at 9 && (isCyclic r && newestSound r v)) ≡ true = rw e at h in
       let m = and-right (eqb at 9) _ k in
       asNewest (eqb-true at 9 (and-left _ _ k)) (records-file r (cyclic-records r (and-left _ _ m))) (and-left _ _ m) (and-right (isCyclic r) _ m))
       (either (eqb at 10))
@@ -48,6 +47,17 @@ module _ (r : Row) (at v : ℕ) where
   blind : (n s : ℕ) → tableByteSound (withBytes r n s) at v ≡ tableByteSound r at v
   unfolding tableByteSound newestSound
   blind n s = refl
+
+-- beside tables whose rows are alike the same forms are sound
+module _ (t u : List ℕ) (rows : Rows t u) where
+  place-kept : (p old : ℕ) → tablePlaceSound u p old ≡ tablePlaceSound t p old
+  unfolding tablePlaceSound
+  place-kept p old =
+      λ i. ltb (p / 16) (rows .count i) && test-kept t u rows (λ (r : Row). tableByteSound r (p % 16) old) (λ r. blind r (p % 16) old) (p / 16) i
+
+  pub form-kept : (files kind p n old : ℕ) → formSound u files kind p n old ≡ formSound t files kind p n old
+  unfolding formSound
+  form-kept files kind p n old = rw (place-kept p old)
 
 -- a place of the table, and a value that is sound there
 module _ (t : List ℕ) (place v : ℕ) (ok : tablePlaceSound t place v ≡ true) where
@@ -68,18 +78,8 @@ module _ (t : List ℕ) (place v : ℕ) (ok : tablePlaceSound t place v ≡ true
   here : (k : ℕ) → place % 16 ≡ k → overwrite t (16 * (place / 16) + k) (v ∷ []) ≡ overwrite t place (v ∷ [])
   here k e = let q : 16 * (place / 16) + k ≡ place = omega arith in rw q
 
-  -- sound places are the same
-  place-kept : (p old : ℕ) → tablePlaceSound (overwrite t place (v ∷ [])) p old ≡ tablePlaceSound t p old
-  unfolding tablePlaceSound
-  place-kept p old =
-      let e = place / 16 in
-      let k = place % 16 in
-      ap (λ (m : List ℕ). tablePlaceSound m p old) (sym (here k refl))
-      ∙ λ i. ltb (p / 16) (changed-entries t e k v inside (omega (arith, bounds)) i) && test-kept t e k v inside (bounds .0) (bounds .1) (λ (r : Row). tableByteSound r (p % 16) old) (λ r. blind r (p % 16) old) (p / 16) i
-
-  pub form-kept : (files kind p n old : ℕ) → formSound (overwrite t place (v ∷ [])) files kind p n old ≡ formSound t files kind p n old
-  unfolding formSound
-  form-kept files kind p n old = rw (place-kept p old)
+  pub table-rows : Rows t (overwrite t place (v ∷ []))
+  table-rows = rw (here (place % 16) refl) at (changed-rows t (place / 16) (place % 16) v inside (bounds .0) (bounds .1))
 
   module _ (files : List ℕ) (sound : soundTable t files ≡ true) where
     pub table-kept : soundTable (overwrite t place (v ∷ [])) files ≡ true

@@ -2,7 +2,7 @@
 use mathlib.Core.Path.{_≡_, sym, ap, _∙_}
 use mathlib.Core.Bool.{true}
 use mathlib.Core.List.{List, _∷_, _++_}
-use Prim.Native.Nat.{ℕ, _+_, _-_, _*_, _/_, _%_, _≤_, _<_}
+use Prim.Native.Nat.{ℕ, _+_, _-_, _≤_, _<_}
 use native.Mathlib.Omega.{arith}
 use lib.Dec.{leb}
 use lib.ListN.{length, take, drop, length-append}
@@ -10,6 +10,7 @@ use lib.Seq.{take-add, drop-drop, drop-append-seam, take-append-seam}
 use borrow.Author.Tests.{le-leb}
 use Rattle.octets.specs.Bytes.{part, numAt, bytes2}
 use Rattle.octets.proofs.Picks.{and-right}
+use Rattle.octets.proofs.Numbers.{num-bytes2}
 use Rattle.octets.proofs.Writes.{part-length, part-part}
 use Rattle.octets.proofs.Same.{same-true, same-refl}
 use Rattle.journal.specs.Entries.{Entry, headSize, tail, encode, tailSize, entryBytes, tailBytes, tailIn, tailAt, formed, oldPlace, entryAt, readable}
@@ -27,13 +28,7 @@ tail-of e = ap (take tailSize) (drop-append-seam (e .old) (tail (e .kind) (e .pl
 module _ (kind place n : ℕ) (near : place < 65536) (few : n < 65536) where
   tail-in : tailIn (tail kind place n) ≡ record { kind = kind; place = place; count = n }
   unfolding tailIn tail bytes2 numAt
-  tail-in = λ i. record { kind = kind; place = p i; count = c i }
-    where
-      p : place / 256 % 256 * 256 + place % 256 ≡ place
-      p = omega arith
-
-      c : n / 256 % 256 * 256 + n % 256 ≡ n
-      c = omega arith
+  tail-in = λ i. record { kind = kind; place = num-bytes2 place near i; count = num-bytes2 n few i }
 
   tail-formed : formed (tail kind place n) ≡ true
   unfolding formed

@@ -1,21 +1,20 @@
 -- What a write does to a card: to the lengths of its memories, to its journal's head and entries; and what it needs. Assumes nothing.
-use mathlib.Core.Path.{_≡_, ap, _∙_}
+use mathlib.Core.Path.{_≡_, refl, ap, _∙_}
 use mathlib.Core.Bool.{true}
 use mathlib.Core.List.{List, [], _∷_}
-use Prim.Native.Nat.{ℕ, _+_, _≤_, _<_}
+use Prim.Native.Nat.{_+_, _≤_, _<_}
 use native.Mathlib.Omega.{arith}
 use lib.ListN.{length}
-use Rattle.octets.specs.Bytes.{part}
 use Rattle.octets.proofs.Writes.{part-length}
 use Rattle.card.specs.Row.{Card}
 use Rattle.card.proofs.Promises.{few-bytes, few-entries, whole-entries}
 use Rattle.journal.specs.Entries.{headSize, usedBytes, scriptsOnTrial, room, entryBytes, encode, mark, entriesOf}
 use Rattle.journal.specs.Sound.{soundCard}
-use Rattle.journal.specs.Changes.{Memory, fileMemory, tableMemory, Write, memoryOf, withJournal, marked, entryFor, write, cost, bytesTaken}
+use Rattle.journal.specs.Changes.{Memory, fileMemory, tableMemory, Write, memoryOf, withJournal, marked, entryFor, write, perform, cost, bytesTaken}
 use Rattle.journal.proofs.Tails.{encode-length}
 use Rattle.journal.proofs.Memories.{memory-beside, put, put-length, after, write-put, write-journal}
-use Rattle.journal.proofs.Pushed.{pushed-length, pushed-kept, pushed-scripts, pushed-used, pushed-entries, marked-length, marked-used, marked-entries}
-use Rattle.journal.proofs.Parts.{card-table, card-journal, card-parts}
+use Rattle.journal.proofs.Pushed.{HasRoom, Grown, pushed-grown, marked-grown}
+use Rattle.journal.proofs.Parts.{used-inside, card-table, card-parts}
 use Rattle.journal.proofs.Encoded.{sound-taken}
 
 -- what a card needs, so that its journal holds what a write needs; a sound card has it
@@ -33,26 +32,24 @@ module _ (c : Card) (sound : soundCard c ≡ true) where
       omega (arith, few-entries (c .table) (c .files) (card-table c sound), whole-entries (c .table) (c .files) (card-table c sound))
 
   pub sound-writable : Writable c
-  unfolding room
   sound-writable =
       let p = card-parts c sound in
       record {
-        used = omega arith;
+        used = used-inside (c .table) (c .files) (c .journal) p;
         short = omega arith;
-        exact = sound-taken (c .table) (c .files) (c .journal) (card-journal c sound);
+        exact = sound-taken (c .table) (c .files) (c .journal) p;
         near = sound-near;
       }
 
 -- it keeps it behind a mark
-pub mark-writable : (c : Card) → Writable c → usedBytes (c .journal) + entryBytes 0 ≤ room (c .journal) → Writable (withJournal c (marked (c .journal)))
+pub mark-writable : (c : Card) → Writable c → HasRoom (c .journal) (entryBytes 0) → Writable (withJournal c (marked (c .journal)))
 unfolding room withJournal bytesTaken mark
 mark-writable c ok left =
-    let l = marked-length (c .journal) left in
-    let u = marked-used (c .journal) left (ok .short) in
+    let g = marked-grown (c .journal) left (ok .short) in
     record {
       used = omega arith;
       short = omega arith;
-      exact = rw (marked-entries (c .journal) left (ok .short), u, ok .exact) (omega arith);
+      exact = rw (g .entries, g .used, ok .exact) (omega arith);
       near = λ m. rw (memory-beside m c (marked (c .journal))) (ok .near m);
     }
 
@@ -70,68 +67,68 @@ module _ (w : Write) (c : Card) (fits : Fits w c) where
   unfolding entryFor
   old-takes = part-length (memoryOf (w .memory) c) (w .place) (length (w .new)) fits
 
-  entry-takes : length (encode (entryFor w c)) ≡ entryBytes (length (w .new))
-  entry-takes = encode-length (entryFor w c) ∙ ap (λ (n : ℕ). entryBytes n) old-takes
-
   -- and the journal's room
-  module _ (ok : Writable c) (left : usedBytes (c .journal) + entryBytes (length (w .new)) ≤ room (c .journal)) where
+  module _ (ok : Writable c) (left : HasRoom (c .journal) (entryBytes (length (w .new)))) where
     pub entry-fits : headSize + usedBytes (c .journal) + length (encode (entryFor w c)) ≤ length (c .journal)
     unfolding room
-    entry-fits = rw entry-takes (omega arith)
+    entry-fits = rw (encode-length (entryFor w c), old-takes) (omega arith)
 
     pub entry-near : entryFor w c .place < 65536
     unfolding entryFor
     entry-near = let n = ok .near (w .memory) in omega arith
 
-    pub write-size : length (write w c .journal) ≡ length (c .journal)
+    pub write-grown : Grown (c .journal) (write w c .journal) (scriptsOnTrial (c .journal)) (entryFor w c)
     unfolding after
-    write-size = rw (write-journal w c) (pushed-length (c .journal) (scriptsOnTrial (c .journal)) (entryFor w c) entry-fits)
+    write-grown = rw (write-journal w c) (pushed-grown (c .journal) (scriptsOnTrial (c .journal)) (entryFor w c) entry-fits (ok .short) entry-near)
 
     pub write-scripts : scriptsOnTrial (write w c .journal) ≡ scriptsOnTrial (c .journal)
-    unfolding after
-    write-scripts = rw (write-journal w c) (pushed-scripts (c .journal) (scriptsOnTrial (c .journal)) (entryFor w c) entry-fits)
+    write-scripts = write-grown .scripts
 
-    pub write-kept : part (write w c .journal) headSize (usedBytes (c .journal)) ≡ part (c .journal) headSize (usedBytes (c .journal))
-    unfolding after
-    write-kept = rw (write-journal w c) (pushed-kept (c .journal) (scriptsOnTrial (c .journal)) (entryFor w c) entry-fits)
-
-    pub write-used : usedBytes (write w c .journal) ≡ usedBytes (c .journal) + entryBytes (length (w .new))
-    unfolding after
-    write-used =
-        rw (write-journal w c, ← entry-takes)
-        (pushed-used (c .journal) (scriptsOnTrial (c .journal)) (entryFor w c) entry-fits (ok .short))
-
-    pub write-entries : entriesOf (write w c .journal) ≡ entryFor w c ∷ entriesOf (c .journal)
-    unfolding after
-    write-entries =
-        rw (write-journal w c)
-        (pushed-entries (c .journal) (scriptsOnTrial (c .journal)) (entryFor w c) entry-fits (ok .short) entry-near)
+    write-used : usedBytes (write w c .journal) ≡ usedBytes (c .journal) + entryBytes (length (w .new))
+    write-used = rw old-takes at (write-grown .used)
 
     pub write-writable : Writable (write w c)
     unfolding room bytesTaken
     write-writable =
         record {
-          used = rw (write-used, write-size) (omega arith);
-          short = rw write-size (ok .short);
-          exact = rw (write-entries, write-used, old-takes, ok .exact) (omega arith);
+          used = rw (write-used, write-grown .size) (omega arith);
+          short = rw (write-grown .size) (ok .short);
+          exact = rw (write-grown .entries, write-grown .used, ok .exact) (omega arith);
           near = λ m. rw (write-lengths m) (ok .near m);
         }
 
+-- what holds of each of a list of writes
+abbrev pub All : (Write → Card → Type 0) → List Write → Card → Type 0
+All P [] c = Unit {0}
+All P (w ∷ ws) c = P w c × All P ws c
+
+pub all-so : (P Q : Write → Card → Type 0) (ws : List Write) (c d : Card) → ((w : Write) → P w c → Q w d) → All P ws c → All Q ws d
+all-so P Q [] c d one f = tt
+all-so P Q (w ∷ ws) c d one f = (one w (f .0), all-so P Q ws c d one (f .1))
+
 -- a list of writes, each of which fits its memory
 abbrev pub AllFit : List Write → Card → Type 0
-AllFit [] c = Unit {0}
-AllFit (w ∷ ws) c = Fits w c × AllFit ws c
+AllFit ws c = All Fits ws c
 
 pub fit-kept : (ws : List Write) (c d : Card) → ((m : Memory) → length (memoryOf m d) ≡ length (memoryOf m c)) → AllFit ws c → AllFit ws d
-fit-kept [] c d l f = tt
-fit-kept (w ∷ ws) c d l f = (rw (l (w .memory)) (f .0), fit-kept ws c d l (f .1))
+fit-kept ws c d l = all-so Fits Fits ws c d (λ w f. rw (l (w .memory)) f)
 
 -- the first of them, and those left after it
-module _ (w : Write) (ws : List Write) (c : Card) (ok : Writable c) (left : usedBytes (c .journal) + cost (w ∷ ws) ≤ room (c .journal)) where
-  pub room-first : usedBytes (c .journal) + entryBytes (length (w .new)) ≤ room (c .journal)
+module _ (w : Write) (ws : List Write) (c : Card) (ok : Writable c) (left : HasRoom (c .journal) (cost (w ∷ ws))) where
+  pub room-first : HasRoom (c .journal) (entryBytes (length (w .new)))
   unfolding cost
   room-first = omega arith
 
-  pub room-next : Fits w c → usedBytes (write w c .journal) + cost ws ≤ room (write w c .journal)
+  pub room-next : Fits w c → HasRoom (write w c .journal) (cost ws)
   unfolding cost room
-  room-next fits = rw (write-used w c fits ok room-first, write-size w c fits ok room-first) (omega arith)
+  room-next fits = rw (write-used w c fits ok room-first, write-grown w c fits ok room-first .size) (omega arith)
+
+-- what one write leaves the same, a list of writes does
+pub perform-same : {A : Type 0} (f : Card → A) → ((w : Write) (c : Card) → Fits w c → Writable c → HasRoom (c .journal) (entryBytes (length (w .new))) → f (write w c) ≡ f c) → (ws : List Write) (c : Card) → AllFit ws c → Writable c → HasRoom (c .journal) (cost ws) → f (perform ws c) ≡ f c
+unfolding perform
+perform-same f one [] c fits ok left = refl
+perform-same f one (w ∷ ws) c fits ok left =
+    let first = room-first w ws c ok left in
+    perform-same f one ws (write w c) (fit-kept ws c (write w c) (write-lengths w c (fits .0)) (fits .1)) (write-writable w c (fits .0) ok first)
+    (room-next w ws c ok left (fits .0))
+    ∙ one w c (fits .0) ok first

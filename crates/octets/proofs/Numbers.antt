@@ -11,10 +11,6 @@ use lib.ListN.{length, drop, length-append}
 use lib.Seq.{getD-take, getD-drop}
 use Rattle.octets.specs.Bytes.{byte, part, numAt, bytes2, value, bytesOf}
 
-pub bytes2-length : (n : ℕ) → length (bytes2 n) ≡ 2
-unfolding bytes2
-bytes2-length n = refl
-
 pub byte-part : (m : List ℕ) (p n i : ℕ) → i < n → byte (part m p n) i ≡ byte m (p + i)
 byte-part m p n i h = getD-take n (drop p m) i 0 h ∙ getD-drop p m i 0
 
@@ -25,7 +21,7 @@ num-part m p n i h = rw (byte-part m p n i (omega arith), byte-part m p n (i + 1
 num-front : (m : List ℕ) (at : ℕ) → numAt m at ≡ numAt (part m at 2) 0
 num-front m at = sym (num-part m at 2 0 (omega arith) ∙ ap (numAt m) (add-zero at))
 
-num-bytes2 : (n : ℕ) → n < 65536 → numAt (bytes2 n) 0 ≡ n
+pub num-bytes2 : (n : ℕ) → n < 65536 → numAt (bytes2 n) 0 ≡ n
 unfolding numAt bytes2
 num-bytes2 n h = omega arith
 

@@ -1,13 +1,13 @@
--- Choices by a test that is known, tests joined by and, and a test of every number below a bound. Assumes nothing.
+-- Choices by a test that is known, tests joined by and and or, and a test of every number below a bound. Assumes nothing.
 use mathlib.Core.Path.{_≡_, refl, sym, ap, _∙_}
-use mathlib.Core.Bool.{Bool, true, false, _&&_, false≢true}
-use mathlib.Core.Logic.{⊎-elim}
+use mathlib.Core.Bool.{Bool, true, false, not, _&&_, _||_, false≢true}
+use mathlib.Core.Logic.{_⊎_, inl, inr, ⊎-elim}
 use Prim.Native.Nat.{ℕ, zero, suc, _+_, _≤_, _<_}
 use native.Mathlib.Nat.{eq-or-lt-of-le, le-of-suc-le-suc, not-suc-le-zero}
 use native.Mathlib.Numerals.{add-one}
 use native.Mathlib.Omega.{arith}
 use lib.Dec.{ltb, leb, eqb}
-use borrow.Author.Tests.{lt-ltb, le-ltb, le-leb, lt-leb, eq-eqb, ne-eqb}
+use borrow.Author.Tests.{lt-ltb, le-ltb, le-leb, lt-leb, eq-eqb, ne-eqb, not-true, not-false}
 use Rattle.octets.specs.Choice.{pick, allBelow}
 
 module _ {A : Type 0} where
@@ -48,10 +48,29 @@ unfolding pick
 on-pick P true x y h g = h refl
 on-pick P false x y h g = g refl
 
+-- the same of a choice that is written out
 pub on-test : {A : Type 0} (P : A → Type 0) (b : Bool) (x y : A) → (b ≡ true → P x) → (b ≡ false → P y) → P (elim b [ true ↦ x | false ↦ y ])
 on-test P true x y h g = h refl
 on-test P false x y h g = g refl
 
+-- a test holds or it does not
+pub either : (b : Bool) → (b ≡ true) ⊎ (b ≡ false)
+either true = inl refl
+either false = inr refl
+
+pub refuted : (b : Bool) → (b ≡ true → ⊥) → b ≡ false
+refuted true h = absurd (h refl)
+refuted false h = refl
+
+-- what a function's result says of the test that it is, where the code asked for `!result`
+module _ {b t : Bool} (is : b ≡ t) where
+  pub told-false : not b ≡ true → t ≡ false
+  told-false h = sym is ∙ not-true b h
+
+  pub told-true : not b ≡ false → t ≡ true
+  told-true h = sym is ∙ not-false b h
+
+-- tests joined by and, and by or
 pub and-left : (a b : Bool) → (a && b) ≡ true → a ≡ true
 and-left true b e = refl
 and-left false b e = e
@@ -63,21 +82,15 @@ and-right false b e = absurd (false≢true e)
 pub and-both : (a b : Bool) → a ≡ true → b ≡ true → (a && b) ≡ true
 and-both a b e f = rw e f
 
-pub refuted : (b : Bool) → (b ≡ true → ⊥) → b ≡ false
-refuted true h = absurd (h refl)
-refuted false h = refl
+pub or-either : (a b : Bool) → (a || b) ≡ true → (a ≡ true) ⊎ (b ≡ true)
+or-either true b e = inl refl
+or-either false b e = inr e
 
-pub all-none : (t : ℕ → Bool) → allBelow 0 t ≡ true
-unfolding allBelow
-all-none t = refl
+pub or-none : (a b : Bool) → (a || b) ≡ false → b ≡ false
+or-none true b e = absurd (false≢true (sym e))
+or-none false b e = e
 
-pub all-next : (n : ℕ) (t : ℕ → Bool) → allBelow (n + 1) t ≡ (allBelow n t && t n)
-unfolding allBelow
-all-next n t = rw add-one
-
-pub all-more : (n : ℕ) (t : ℕ → Bool) → allBelow n t ≡ true → t n ≡ true → allBelow (n + 1) t ≡ true
-all-more n t h e = all-next n t ∙ and-both (allBelow n t) (t n) h e
-
+-- a test of every number below a bound: what it says of each, and what proves it
 pub all-at : (n k : ℕ) (t : ℕ → Bool) → allBelow n t ≡ true → k < n → t k ≡ true
 unfolding allBelow
 all-at zero k t h l = absurd (not-suc-le-zero l)
@@ -87,10 +100,23 @@ all-at (suc n) k t h l =
     (λ b. all-at n k t (and-left (allBelow n t) (t n) h) b)
     (eq-or-lt-of-le (le-of-suc-le-suc l))
 
-pub all-fails : (n k : ℕ) (t : ℕ → Bool) → k < n → t k ≡ false → allBelow n t ≡ false
-all-fails n k t l f = refuted (allBelow n t) (λ e. false≢true (sym f ∙ all-at n k t e l))
-
 pub all-intro : (n : ℕ) (t : ℕ → Bool) → ((k : ℕ) → k < n → t k ≡ true) → allBelow n t ≡ true
 unfolding allBelow
 all-intro zero t h = refl
 all-intro (suc n) t h = and-both (allBelow n t) (t n) (all-intro n t (λ k l. h k (omega arith))) (h n (omega arith))
+
+-- a loop that asks for one number after the other: it starts, fails, goes on, and ends
+pub all-none : (t : ℕ → Bool) → allBelow 0 t ≡ true
+unfolding allBelow
+all-none t = refl
+
+module _ (k : ℕ) (t : ℕ → Bool) {b : Bool} (is : b ≡ t k) where
+  pub all-fails : (n : ℕ) → k < n → not b ≡ true → false ≡ allBelow n t
+  all-fails n l h = sym (refuted (allBelow n t) (λ e. false≢true (sym (told-false is h) ∙ all-at n k t e l)))
+
+  pub all-more : allBelow k t ≡ true → not b ≡ false → allBelow (k + 1) t ≡ true
+  unfolding allBelow
+  all-more e h = rw add-one (and-both (allBelow k t) (t k) e (told-true is h))
+
+pub all-ends : (n k : ℕ) (t : ℕ → Bool) → k ≡ n → allBelow k t ≡ true → true ≡ allBelow n t
+all-ends n k t e h = sym (rw e at h)

@@ -11,7 +11,7 @@ use lib.ListN.{length, take, drop, drop-of-length-le, length-drop, take-append-d
 use lib.Seq.{drop-cons, drop-drop, take-all}
 use borrow.Author.Tests.{eqb-true, eq-eqb}
 use Rattle.octets.specs.Bytes.{byte, part, zeros, allZero, same, startsWith, contains}
-use Rattle.octets.proofs.Picks.{and-left, and-right, and-both}
+use Rattle.octets.proofs.Picks.{and-left, and-right, and-both, refuted}
 use Rattle.octets.proofs.Writes.{part-length}
 use Rattle.octets.proofs.Numbers.{byte-part}
 
@@ -47,22 +47,13 @@ module _ {t : Bool} (found : Bool) (m : List ℕ) (i : ℕ) (left : t ≡ (found
   unfolding allZero
   zero-ends h = sym (left ∙ (rw (drop-of-length-le m h) (and-true found)))
 
--- a comparison byte by byte: what is left from place i on tells what the whole does
-module _ {t : Bool} (m d : List ℕ) (j i : ℕ) (left : t ≡ startsWith (drop j m) (drop i d)) where
-  starts-next : j < length m → i < length d → t ≡ (eqb (byte m j) (byte d i) && startsWith (drop (j + 1) m) (drop (i + 1) d))
-  unfolding startsWith
-  starts-next h g = left ∙ rw (add-one j, add-one i, drop-cons m j 0 h, drop-cons d i 0 g)
-
-pub starts-empty : (m d : List ℕ) → length d ≡ 0 → true ≡ startsWith m d
-unfolding startsWith
-starts-empty m [] h = refl
-starts-empty m (y ∷ d) h = absurd (omega arith)
-
--- the same gathered
+-- a comparison, gathered the same way, with the n bytes of a run from one of its places on
 module _ {t : Bool} (found : Bool) (m d : List ℕ) (j i : ℕ) (left : t ≡ (found && startsWith (drop j m) (drop i d))) where
-  pub starts-more : j < length m → i < length d → t ≡ ((found && eqb (byte m j) (byte d i)) && startsWith (drop (j + 1) m) (drop (i + 1) d))
+  starts-more : j < length m → i < length d → t ≡ ((found && eqb (byte m j) (byte d i)) && startsWith (drop (j + 1) m) (drop (i + 1) d))
+  unfolding startsWith
   starts-more h g =
-      left ∙ ap (λ (b : Bool). found && b) (starts-next m d j i refl h g) ∙ sym (and-assoc found (eqb (byte m j) (byte d i)) (startsWith (drop (j + 1) m) (drop (i + 1) d)))
+      left
+      ∙ (rw (add-one j, add-one i, drop-cons m j 0 h, drop-cons d i 0 g) (sym (and-assoc found (eqb (byte m j) (byte d i)) (startsWith (drop (suc j) m) (drop (suc i) d)))))
 
   pub starts-ends : length d ≤ i → found ≡ t
   unfolding startsWith
@@ -86,7 +77,7 @@ starts-piece m d at i n h =
     ∙ starts-split (drop (at + i) m) (part d i n) (drop n (drop i d))
     ∙ rw (part-length d i n h, drop-drop n (at + i) m, drop-drop n i d, add-assoc at i n)
 
--- the same piece by piece: the n bytes of the run from place i on, and at last those that end it
+-- a comparison piece by piece: the n bytes of the run from place i on, and at last those that end it
 module _ (m d : List ℕ) (at i n : ℕ) (left : startsWith (drop at m) d ≡ startsWith (drop (at + i) m) (drop i d)) where
   pub piece-differs : i + n ≤ length d → startsWith (drop (at + i) m) (part d i n) ≡ false → false ≡ startsWith (drop at m) d
   piece-differs h e = sym (left ∙ starts-piece m d at i n h ∙ rw e)
@@ -111,25 +102,23 @@ module _ (m d : List ℕ) (at i n : ℕ) (left : startsWith (drop at m) d ≡ st
       between t x false y p q = sym (p ∙ and-false x)
       between t x true y p q = sym (and-right y t (sym q))
 
--- a run that begins with another has its bytes first, and every run begins with a front of it
+-- a run that begins with another has its bytes first
 pub starts-true : (m d : List ℕ) → startsWith m d ≡ true → take (length d) m ≡ d
 unfolding startsWith
 starts-true m [] h = refl
 starts-true [] (y ∷ d) h = absurd (false≢true h)
 starts-true (x ∷ m) (y ∷ d) h = λ i. eqb-true x y (and-left (eqb x y) (startsWith m d) h) i ∷ starts-true m d (and-right (eqb x y) (startsWith m d) h) i
 
--- another byte tells
-pub starts-differs : (m d : List ℕ) (at i : ℕ) → i < length d → (byte m (at + i) ≡ byte d i → ⊥) → false ≡ startsWith (drop at m) d
-starts-differs m d at i h e = by (startsWith (drop at m) d) refl
-  where
-    by : (b : Bool) → startsWith (drop at m) d ≡ b → false ≡ startsWith (drop at m) d
-    by false q = sym q
-    by true q = absurd (e (sym (byte-part m at (length d) i h) ∙ ap (λ (l : List ℕ). byte l i) (starts-true (drop at m) d q)))
+-- so another first byte tells that it does not
+pub starts-differs : (m d : List ℕ) (at : ℕ) → 0 < length d → (byte m at ≡ byte d 0 → ⊥) → false ≡ startsWith (drop at m) d
+starts-differs m d at h e =
+    sym (refuted (startsWith (drop at m) d) (λ q. e (ap (byte m) (sym (add-zero at)) ∙ sym (byte-part m at (length d) 0 h) ∙ ap (λ (l : List ℕ). byte l 0) (starts-true (drop at m) d q))))
 
-pub starts-front : (d r : List ℕ) → startsWith (d ++ r) d ≡ true
+-- every run begins with the empty one, and none with a longer one
+pub starts-empty : (m d : List ℕ) → length d ≡ 0 → true ≡ startsWith m d
 unfolding startsWith
-starts-front [] r = refl
-starts-front (x ∷ d) r = and-both (eqb x x) (startsWith (d ++ r) d) (eq-eqb x x refl) (starts-front d r)
+starts-empty m [] h = refl
+starts-empty m (y ∷ d) h = absurd (omega arith)
 
 pub starts-not : (m d : List ℕ) → startsWith m d ≡ false → 0 < length d
 unfolding startsWith
@@ -142,6 +131,7 @@ starts-short m [] h = absurd (not-suc-le-zero h)
 starts-short [] (y ∷ d) h = refl
 starts-short (x ∷ m) (y ∷ d) h = ap (λ (b : Bool). eqb x y && b) (starts-short m d (le-of-suc-le-suc h)) ∙ and-false (eqb x y)
 
+-- a run stands in no shorter one; else it begins here or stands behind
 pub contains-short : (m d : List ℕ) → length m < length d → contains m d ≡ false
 unfolding contains
 contains-short [] d h = starts-short [] d h

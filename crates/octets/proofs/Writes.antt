@@ -5,9 +5,9 @@ use Prim.Native.Nat.{ℕ, zero, suc, _+_, _-_, _≤_, _<_}
 use native.Mathlib.Nat.{add-assoc, add-zero, zero-add, suc-add, add-sub-of-le, add-sub-cancel-left, le-refl}
 use native.Mathlib.Numerals.{add-one}
 use native.Mathlib.Omega.{arith}
-use lib.ListN.{length, set, take, drop, length-append, length-take, length-drop, length-replicate, replicate-append-replicate, take-append-drop, List·getD-append}
-use lib.Seq.{length-take-le, take-append-le, take-append-add, take-append-seam, drop-append-le, drop-append-add, take-at, drop-at, drop-drop, take-take, take-nil, take-add, take-suc, set-split, sets, sets-eq, getD-take, getD-drop}
-use Rattle.octets.specs.Bytes.{byte, part, overwrite, zeros}
+use lib.ListN.{length, set, take, drop, length-append, length-take, length-drop, take-append-drop, List·getD-append}
+use lib.Seq.{length-take-le, take-append-le, take-append-add, take-append-seam, drop-append-le, drop-append-add, drop-at, drop-drop, take-take, take-nil, take-add, take-suc, set-split, sets, sets-eq, getD-take, getD-drop}
+use Rattle.octets.specs.Bytes.{byte, part, overwrite}
 
 -- parts of a memory: one that is lent by where it starts and where it ends
 pub part-lent : (m : List ℕ) (p n : ℕ) → part m p (p + n - p) ≡ part m p n
@@ -121,7 +121,7 @@ write-swap m p q d e h fits =
     rw (take-append-drop, l, add-zero) at (swap-at (take q m) (drop q m) p 0 d e (rw l h))
 
 -- a write in all that lies behind a place, and in a lent part
-pub write-in-rest : (m : List ℕ) (a n : ℕ) (d : List ℕ) → a ≤ length m → take a m ++ overwrite (drop a m) n d ≡ overwrite m (a + n) d
+write-in-rest : (m : List ℕ) (a n : ℕ) (d : List ℕ) → a ≤ length m → take a m ++ overwrite (drop a m) n d ≡ overwrite m (a + n) d
 write-in-rest m a n d h = rw (take-append-drop, length-take-le a m h) at (sym (write-behind (take a m) (drop a m) n d))
 
 pub write-in-part : (m : List ℕ) (a k n : ℕ) {ys : List ℕ} (d : List ℕ) → ys ≡ overwrite (part m a k) n d → a + k ≤ length m → n + length d ≤ k → take a m ++ (ys ++ drop k (drop a m)) ≡ overwrite m (a + n) d
@@ -149,11 +149,3 @@ write-next m m₀ d at i fits h e =
 pub sets-write : (m : List ℕ) (p : ℕ) (d : List ℕ) → p + length d ≤ length m → sets m p d ≡ overwrite m p d
 unfolding overwrite
 sets-write m p d fits = sets-eq d m p fits ∙ append-assoc (take p m) d (drop (p + length d) m)
-
--- a part of zeros
-pub zeros-part : (n p k : ℕ) → p + k ≤ n → part (zeros n) p k ≡ zeros k
-zeros-part n p k h =
-    let r : ℕ = n - (p + k) in
-    let e : n ≡ p + (k + r) = omega arith in
-    ap (λ (l : List ℕ). part l p k) (ap zeros e ∙ sym (replicate-append-replicate p (k + r) 0)) ∙ ap (take k) (drop-at (zeros p) (zeros (k + r)) p (length-replicate p 0))
-    ∙ ap (take k) (sym (replicate-append-replicate k r 0)) ∙ take-at (zeros k) (zeros r) k (length-replicate k 0)

@@ -1,23 +1,23 @@
 -- The session of a script on a sound table: it starts good, what it finds belongs to its root, and it stays good. Assumes nothing.
 use mathlib.Core.Path.{_≡_, refl, ap, _∙_}
-use mathlib.Core.Bool.{Bool, true, false, _||_}
-use mathlib.Core.List.{List, [], _∷_}
-use Prim.Native.Nat.{ℕ, zero, suc, _+_, _*_, _≤_, _<_}
+use mathlib.Core.Bool.{true, false}
+use mathlib.Core.List.{List}
+use mathlib.Core.Logic.{⊎-elim}
+use Prim.Native.Nat.{ℕ, zero, suc, _≤_, _<_}
 use native.Mathlib.Decide.{decLt}
 use native.Mathlib.Omega.{arith}
 use lib.Dec.{eqb}
 use lib.ListN.{length}
 use borrow.Author.Tests.{eqb-true, ne-eqb}
-use Rattle.octets.proofs.Picks.{on-pick}
+use Rattle.octets.proofs.Picks.{on-pick, or-either}
 use Rattle.octets.specs.Choice.{pick}
-use Rattle.octets.specs.Bytes.{overwrite}
 use Rattle.card.specs.declared.Row.{Row}
 use Rattle.card.specs.declared.tree.Found.the-variants.{At}
 use Rattle.card.specs.Row.{entries, rowOf, isCyclic, isDirectory, isFile, hasRecords}
 use Rattle.card.specs.Sound.{recordCount, soundTable}
 use Rattle.card.specs.Tree.{isRoot, rootIn, rootOf}
-use Rattle.card.proofs.Promises.{file-kind, records-some, entry-own, first-kind, no-directory-file, parent-directory}
-use Rattle.card.proofs.Kept.{withBytes, changed-entries, row-alike}
+use Rattle.card.proofs.Promises.{file-kind, cyclic-records, records-some, entry-own, first-kind, no-directory-file, parent-directory}
+use Rattle.card.proofs.Kept.{withBytes}
 use Rattle.session.specs.declared.Session.{Session}
 use Rattle.session.specs.Session.{none, mostWaiting, start, waits, dropped, atRecord, moved, selected}
 use Rattle.session.specs.Select.{find}
@@ -25,12 +25,8 @@ use Rattle.session.specs.Good.{Belongs, GoodFile, Good}
 use Rattle.session.proofs.Owned.{root-belongs, parent-belongs, find-owned}
 
 -- kinds
-either : (a b : Bool) {P : Type 0} → (a ≡ true → P) → (b ≡ true → P) → (a || b) ≡ true → P
-either true b f g h = f refl
-either false b f g h = g h
-
 root-directory : (r : Row) → isRoot r ≡ true → isDirectory r ≡ true
-root-directory r = either (eqb (r .kind) 1) (eqb (r .kind) 3) (λ e. rw (eqb-true (r .kind) 1 e)) (λ e. rw (eqb-true (r .kind) 3 e))
+root-directory r h = ⊎-elim (λ e. rw (eqb-true (r .kind) 1 e)) (λ e. rw (eqb-true (r .kind) 3 e)) (or-either (eqb (r .kind) 1) (eqb (r .kind) 3) h)
 
 file-no-root : (r : Row) → isFile r ≡ true → isRoot r ≡ false
 file-no-root r h = let k = file-kind r h in rw (ne-eqb (r .kind) 1 (omega arith), ne-eqb (r .kind) 3 (omega arith))
@@ -106,10 +102,6 @@ module _ (t u : List ℕ) (count : entries u ≡ entries t) (alike : (d : ℕ) �
         valid = g .valid;
       }
 
-pub good-changed : (t : List ℕ) (e k v : ℕ) → e < entries t → 9 ≤ k → k ≤ 10 → (s : Session) → Good t s → Good (overwrite t (16 * e + k) (v ∷ [])) s
-good-changed t e k v here low high =
-    good-kept t (overwrite t (16 * e + k) (v ∷ [])) (changed-entries t e k v here (omega arith)) (row-alike t e k v here low high)
-
 module _ (t files : List ℕ) (sound : soundTable t files ≡ true) where
   -- the start
   pub good-start : (a : ℕ) → a < entries t → isRoot (rowOf t a) ≡ true → Good t (start a)
@@ -133,16 +125,13 @@ module _ (t files : List ℕ) (sound : soundTable t files ≡ true) where
         (λ h. record {
           belongs = b;
           isFile = y;
-          numbered = on-pick (λ n. 1 ≤ n → hasRecords (rowOf t e) ≡ true) (isCyclic (rowOf t e)) 1 none (λ c h. has c) (λ c h. absurd (omega arith));
-          within = on-pick (λ n. 1 ≤ n → n ≤ recordCount (rowOf t e)) (isCyclic (rowOf t e)) 1 none (λ c h. records-some (length files) (rowOf t e) (entry-own t files sound e (b .inside)) (has c)) (λ c h. absurd (omega arith));
+          numbered = on-pick (λ n. 1 ≤ n → hasRecords (rowOf t e) ≡ true) (isCyclic (rowOf t e)) 1 none (λ c h. cyclic-records (rowOf t e) c) (λ c h. absurd (omega arith));
+          within = on-pick (λ n. 1 ≤ n → n ≤ recordCount (rowOf t e)) (isCyclic (rowOf t e)) 1 none (λ c h. records-some (length files) (rowOf t e) (entry-own t files sound e (b .inside)) (cyclic-records (rowOf t e) c)) (λ c h. absurd (omega arith));
         })
         (λ z. absurd (other z))
       where
         other : e ≡ 0 → ⊥
         other z = let k = file-kind (rowOf t e) y in let f = first-kind t files sound e (b .inside) z in omega arith
-
-        has : isCyclic (rowOf t e) ≡ true → hasRecords (rowOf t e) ≡ true
-        has c = rw (eqb-true (rowOf t e .kind) 6 c)
 
     pub good-selected : Good t (selected s e (rowOf t e))
     unfolding selected

@@ -1,12 +1,12 @@
 -- What SELECT finds on a sound table belongs to the root that it starts from, so nothing of another application is ever found. Assumes nothing.
 use mathlib.Core.Path.{_≡_, refl, sym, ap, _∙_}
-use mathlib.Core.Bool.{Bool, true, false, _||_, false≢true}
+use mathlib.Core.Bool.{Bool, true, false}
 use mathlib.Core.List.{List, [], _∷_}
 use Prim.Native.Nat.{ℕ, _+_, _*_, _<_}
 use native.Mathlib.Omega.{arith}
 use lib.Dec.{eqb}
 use borrow.Author.Tests.{eqb-true, eqb-false, not-true}
-use Rattle.octets.proofs.Picks.{and-left, and-right, refuted, on-pick}
+use Rattle.octets.proofs.Picks.{on-pick, refuted, and-left, and-right, or-none}
 use Rattle.card.specs.declared.Row.{Row}
 use Rattle.card.specs.declared.tree.Found.{Found}
 use Rattle.card.specs.declared.tree.Found.the-variants.{At, Nothing}
@@ -26,10 +26,6 @@ on-or P (At e) g h k = h
 on-or P Nothing g h k = k
 
 -- a child is no root
-or-none : (a b : Bool) → (a || b) ≡ false → b ≡ false
-or-none true b h = absurd (false≢true (sym h))
-or-none false b h = h
-
 child-no-root : (r : Row) → canBeChild r ≡ true → isRoot r ≡ false
 child-no-root r h = or-none (eqb (r .kind) 0) (isRoot r) (not-true _ h)
 

@@ -1,6 +1,6 @@
 -- The FCP of each kind of entry: its bytes, that they are at most 20, and that an entry of a sound table has what the FCP needs. Assumes nothing.
 use mathlib.Core.Path.{_≡_}
-use mathlib.Core.Bool.{Bool, true, false}
+use mathlib.Core.Bool.{true}
 use mathlib.Core.List.{List, [], _∷_, _++_}
 use mathlib.Core.Logic.{⊎-elim}
 use Prim.Native.Nat.{ℕ, _≤_, _<_}
@@ -10,16 +10,12 @@ use lib.ListN.{length, length-append}
 use borrow.Author.Tests.{eqb-true, ne-eqb}
 use Rattle.octets.specs.Choice.{pick}
 use Rattle.octets.specs.Bytes.{bytes2}
+use Rattle.octets.proofs.Picks.{on-pick}
 use Rattle.card.specs.declared.Row.{Row}
 use Rattle.card.specs.Row.{entries, rowOf, isDirectory, isTransparent, hasRecords}
 use Rattle.card.specs.Sound.{recordCount, soundTable}
 use Rattle.card.proofs.Promises.{directory-kind, kind-is-file, file-no-directory, record-some, records-few, entry-own, entry-kind}
 use Rattle.session.specs.Fcp.{FcpFits, descriptor, fcp82, fcp83, fcp8A, fcp80, fcpBody, fcp}
-
-pick-length : (b : Bool) (x y : List ℕ) (n : ℕ) → length x ≤ n → length y ≤ n → length (pick b x y) ≤ n
-unfolding pick
-pick-length true x y n h g = h
-pick-length false x y n h g = g
 
 module _ (r : Row) where
   pub directory-fcp : isDirectory r ≡ true → 0x62 ∷ 11 ∷ 0x82 ∷ 2 ∷ 0x78 ∷ 0x21 ∷ (fcp83 r ++ fcp8A r) ≡ fcp r
@@ -52,7 +48,7 @@ module _ (r : Row) where
   unfolding fcp fcpBody fcp82 fcp83 fcp8A fcp80 bytes2
   fcp-short =
       simp length-append
-      (omega (arith, pick-length (hasRecords r) (0x82 ∷ 5 ∷ descriptor r ∷ 0x21 ∷ (bytes2 (r .«record») ++ (recordCount r ∷ []))) (0x82 ∷ 2 ∷ descriptor r ∷ 0x21 ∷ []) 7 (omega arith) (omega arith), pick-length (isDirectory r) [] (0x80 ∷ 2 ∷ bytes2 (r .size)) 4 (omega arith) (omega arith)))
+      (omega (arith, on-pick (λ (bs : List ℕ). length bs ≤ 7) (hasRecords r) (0x82 ∷ 5 ∷ descriptor r ∷ 0x21 ∷ (bytes2 (r .«record») ++ (recordCount r ∷ []))) (0x82 ∷ 2 ∷ descriptor r ∷ 0x21 ∷ []) (λ h. omega arith) (λ h. omega arith), on-pick (λ (bs : List ℕ). length bs ≤ 4) (isDirectory r) [] (0x80 ∷ 2 ∷ bytes2 (r .size)) (λ h. omega arith) (λ h. omega arith)))
 
 pub fcp-fits : (t files : List ℕ) → soundTable t files ≡ true → (e : ℕ) → e < entries t → FcpFits (rowOf t e)
 fcp-fits t files sound e here =

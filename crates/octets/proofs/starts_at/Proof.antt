@@ -1,9 +1,6 @@
 -- `octets::starts_at` meets its contract: another first byte tells, and else all are compared. Assumes nothing.
-use mathlib.Core.Path.{sym, ap, _∙_}
-use native.Mathlib.Nat.{add-zero}
 use native.Mathlib.Omega.{arith}
 use borrow.Author.Needs.{needs}
-use Rattle.octets.specs.Bytes.{byte}
 use Rattle.octets.proofs.Same.{starts-empty, starts-differs}
 use Rattle.octets.proofs.starts_at.Statement.{statement}
 use Rattle.octets.proofs.starts_at.Tie as tie
@@ -20,7 +17,7 @@ shared-slice-read-if2-2 c = search needs
 returns-2 : tie.Need-returns-2
 returns-2 c =
     let a = c .before .before .before .before .before .before .args in
-    starts-differs (a .m .now) (a .d .now) (a .at) 0 (omega arith) (λ e. c .if2 .taken (ap (byte (a .m .now)) (sym (add-zero (a .at))) ∙ e))
+    starts-differs (a .m .now) (a .d .now) (a .at) (omega arith) (c .if2 .taken)
 
 starts-by-requires : tie.Need-starts-by-requires
 starts-by-requires c κs = search needs

@@ -1,12 +1,12 @@
 -- `octets::starts_by` meets its contract. The loop's invariant: what is left of the run from i on tells what all of it does. Assumes nothing.
-use mathlib.Core.Path.{_≡_, sym, _∙_}
+use mathlib.Core.Path.{_≡_, _∙_}
 use native.Mathlib.Nat.{add-zero}
 use Prim.Native.Nat.{_+_, _-_, _≤_}
 use native.Mathlib.Omega.{arith}
 use borrow.Author.Needs.{needs}
-use borrow.Author.Tests.{not-true, not-false}
 use lib.ListN.{length, drop}
 use Rattle.octets.specs.Bytes.{startsWith}
+use Rattle.octets.proofs.Picks.{told-false, told-true}
 use Rattle.octets.proofs.Same.{piece-differs, piece-same, piece-last}
 use Rattle.octets.proofs.starts_by.Statement.{statement}
 use Rattle.octets.proofs.starts_by.Tie as tie
@@ -33,7 +33,7 @@ returns : tie.Need-returns Inv-loop μ-loop
 returns c =
     let a = c .before .before .before .before .before .before .args in
     let l = c .before .before .before .loop in
-    piece-differs (a .m .now) (a .d .now) (a .at) (l .i) (a .width) (l .inv .1) (omega arith) (sym (c .before .same-part .ensures) ∙ not-true _ (c .if1 .taken))
+    piece-differs (a .m .now) (a .d .now) (a .at) (l .i) (a .width) (l .inv .1) (omega arith) (told-false (c .before .same-part .ensures) (c .if1 .taken))
 
 add-i : tie.Need-add-i Inv-loop μ-loop
 add-i c = search needs
@@ -45,7 +45,7 @@ loop-again : tie.Need-loop-again Inv-loop μ-loop
 loop-again c =
     let a = c .before .before .before .before .before .before .args in
     let l = c .before .before .before .loop in
-    (omega arith, piece-same (a .m .now) (a .d .now) (a .at) (l .i) (a .width) (l .inv .1) (omega arith) (sym (c .before .same-part .ensures) ∙ not-false _ (c .if1 .left)))
+    (omega arith, piece-same (a .m .now) (a .d .now) (a .at) (l .i) (a .width) (l .inv .1) (omega arith) (told-true (c .before .same-part .ensures) (c .if1 .left)))
 
 add-same-part-2 : tie.Need-add-same-part-2 Inv-loop μ-loop
 add-same-part-2 c = search needs

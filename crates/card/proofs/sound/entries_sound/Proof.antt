@@ -1,13 +1,12 @@
 -- `card::sound::entries_sound` meets its contract. The loop's invariant: the entries before e are sound. Assumes nothing.
-use borrow.Author.Tests.{not-true, not-false}
-use mathlib.Core.Path.{_≡_, sym, _∙_}
+use mathlib.Core.Path.{_≡_}
 use mathlib.Core.Bool.{true}
 use Prim.Native.Nat.{_-_, _≤_}
 use native.Mathlib.Omega.{arith}
 use borrow.Author.Needs.{needs}
 use Rattle.octets.specs.Choice.{allBelow}
-use Rattle.octets.proofs.Picks.{all-none, all-more, all-fails}
-use Rattle.card.specs.Row.{entries, rowOf}
+use Rattle.octets.proofs.Picks.{all-none, all-fails, all-more, all-ends}
+use Rattle.card.specs.Row.{rowOf}
 use Rattle.card.specs.Sound.{entrySound, entriesSound}
 use Rattle.card.proofs.sound.entries_sound.Statement.{statement}
 use Rattle.card.proofs.sound.entries_sound.Tie as tie
@@ -29,7 +28,7 @@ entry-sound-requires c κs = search needs
 
 returns : tie.Need-returns Inv-loop μ-loop
 unfolding entriesSound
-returns c = sym (all-fails _ (c .before .before .before .loop .e) _ (omega arith) (sym (c .before .entry-sound .ensures) ∙ not-true _ (c .if1 .taken)))
+returns c = all-fails (c .before .before .before .loop .e) _ (c .before .entry-sound .ensures) _ (omega arith) (c .if1 .taken)
 
 add-e : tie.Need-add-e Inv-loop μ-loop
 add-e c = search needs
@@ -38,13 +37,11 @@ loop-less : tie.Need-loop-less Inv-loop μ-loop
 loop-less c = search needs
 
 loop-again : tie.Need-loop-again Inv-loop μ-loop
-loop-again c = (omega arith, all-more _ _ (c .before .before .before .loop .inv .1) (sym (c .before .entry-sound .ensures) ∙ not-false _ (c .if1 .left)))
+loop-again c = (omega arith, all-more _ _ (c .before .entry-sound .ensures) (c .before .before .before .loop .inv .1) (c .if1 .left))
 
 returns-2 : tie.Need-returns-2 Inv-loop μ-loop
 unfolding entriesSound
-returns-2 c =
-    let k : c .before .loop .e ≡ entries (c .before .before .before .before .args .table .now) = omega arith in
-    sym (rw k at (c .before .loop .inv .1))
+returns-2 c = all-ends _ (c .before .loop .e) _ (omega arith) (c .before .loop .inv .1)
 
 pub entries-sound-spec : {M : Type 1} → statement M
 entries-sound-spec =

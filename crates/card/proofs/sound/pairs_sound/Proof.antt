@@ -1,21 +1,15 @@
 -- `card::sound::pairs_sound` meets its contract. The loop's invariant: the entries before e are sound in pairs. Assumes nothing.
-use mathlib.Core.Path.{_≡_, sym, _∙_}
-use mathlib.Core.Bool.{Bool, true}
-use mathlib.Core.List.{List}
-use Prim.Native.Nat.{ℕ, _-_, _≤_}
+use mathlib.Core.Path.{_≡_}
+use mathlib.Core.Bool.{true}
+use Prim.Native.Nat.{_-_, _≤_}
 use native.Mathlib.Omega.{arith}
 use borrow.Author.Needs.{needs}
-use borrow.Author.Tests.{not-true, not-false}
 use Rattle.octets.specs.Choice.{allBelow}
-use Rattle.octets.proofs.Picks.{all-none, all-more, all-fails}
-use Rattle.card.specs.declared.Row.{Row}
-use Rattle.card.specs.Row.{entries, rowOf}
+use Rattle.octets.proofs.Picks.{all-none, all-fails, all-more, all-ends}
+use Rattle.card.specs.Row.{rowOf}
 use Rattle.card.specs.Sound.{pairSound, pairsSound}
 use Rattle.card.proofs.sound.pairs_sound.Statement.{statement}
 use Rattle.card.proofs.sound.pairs_sound.Tie as tie
-
-earlier : (t : List ℕ) (e : ℕ) (r : Row) {b v : Bool} → r ≡ rowOf t e → b ≡ allBelow e (λ d. pairSound (rowOf t d) r) → b ≡ v → allBelow e (λ d. pairSound (rowOf t d) (rowOf t e)) ≡ v
-earlier t e r x y z = rw (← x) (sym y ∙ z)
 
 abbrev Inv-loop : tie.InvT-loop
 Inv-loop table n e₀ e = (e ≤ n) × (allBelow e (λ k. allBelow k (λ d. pairSound (rowOf table d) (rowOf table k))) ≡ true)
@@ -37,7 +31,7 @@ earlier-sound-requires c κs = search needs
 
 returns : tie.Need-returns Inv-loop μ-loop
 unfolding pairsSound
-returns c = sym (all-fails _ (c .before .before .before .before .loop .e) _ (omega arith) (earlier _ _ _ (c .before .before .row-at .ensures .0) (c .before .earlier-sound .ensures) (not-true _ (c .if1 .taken))))
+returns c = all-fails (c .before .before .before .before .loop .e) _ (rw (c .before .before .row-at .ensures .0) at (c .before .earlier-sound .ensures)) _ (omega arith) (c .if1 .taken)
 
 add-e : tie.Need-add-e Inv-loop μ-loop
 add-e c = search needs
@@ -46,13 +40,11 @@ loop-less : tie.Need-loop-less Inv-loop μ-loop
 loop-less c = search needs
 
 loop-again : tie.Need-loop-again Inv-loop μ-loop
-loop-again c = (omega arith, all-more _ _ (c .before .before .before .before .loop .inv .1) (earlier _ _ _ (c .before .before .row-at .ensures .0) (c .before .earlier-sound .ensures) (not-false _ (c .if1 .left))))
+loop-again c = (omega arith, all-more _ _ (rw (c .before .before .row-at .ensures .0) at (c .before .earlier-sound .ensures)) (c .before .before .before .before .loop .inv .1) (c .if1 .left))
 
 returns-2 : tie.Need-returns-2 Inv-loop μ-loop
 unfolding pairsSound
-returns-2 c =
-    let k : c .before .loop .e ≡ entries (c .before .before .before .before .args .table .now) = omega arith in
-    sym (rw k at (c .before .loop .inv .1))
+returns-2 c = all-ends _ (c .before .loop .e) _ (omega arith) (c .before .loop .inv .1)
 
 pub pairs-sound-spec : {M : Type 1} → statement M
 pairs-sound-spec =

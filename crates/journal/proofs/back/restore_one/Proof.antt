@@ -1,10 +1,13 @@
 -- `journal::back::restore_one` meets its contract: the lent part of the journal is the entry's old bytes, and its kind names the memory that they came from. Assumes nothing.
 use mathlib.Core.Path.{refl}
+use Prim.Native.Nat.{_≤_}
 use native.Mathlib.Omega.{arith}
 use borrow.Author.Needs.{needs}
 use Rattle.card.specs.Row.{Card, lent}
+use Rattle.journal.specs.Entries.{entryBytes}
 use Rattle.journal.specs.Changes.{memoryOf, withMemory}
-use Rattle.journal.proofs.Steps.{readable-fits, from-table, from-files, fits-back, given-back}
+use Rattle.journal.proofs.Entries.{readable-fits}
+use Rattle.journal.proofs.GivenBack.{from-table, from-files, fits-back, given-back}
 use Rattle.journal.proofs.back.restore_one.Statement.{statement}
 use Rattle.journal.proofs.back.restore_one.Tie as tie
 
@@ -20,8 +23,11 @@ add-at c = search needs
 add-at-2 : tie.Need-add-at-2
 add-at-2 c = search needs
 
+no-longer : (c : tie.After-tail-at) → entryBytes (c .tail-at .result .count) ≤ c .before .before .before .before .args .u
+no-longer c = readable-fits _ _ (c .tail-at .ensures .0) (c .before .before .before .before .pre .1)
+
 sub-at : tie.Need-sub-at
-sub-at c = let s = c .before .before .before .before .before in omega (arith, readable-fits (s .args .journal .now) (s .args .u) (c .before .tail-at .ensures .0) (s .pre .1))
+sub-at c = omega (arith, no-longer (c .before))
 
 add-end : tie.Need-add-end
 add-end c = search needs
@@ -33,7 +39,7 @@ part-copy-start : tie.Need-part-copy-start
 part-copy-start c = search needs
 
 part-copy-end : tie.Need-part-copy-end
-part-copy-end c = let s = c .before .before .before .before .before .before .before .before .before in omega (arith, readable-fits (s .args .journal .now) (s .args .u) (c .before .before .before .before .before .tail-at .ensures .0) (s .pre .1))
+part-copy-end c = omega (arith, no-longer (c .before .before .before .before .before))
 
 copy-requires : tie.Need-copy-requires
 unfolding memoryOf
@@ -59,7 +65,7 @@ part-copy-start-2 : tie.Need-part-copy-start-2
 part-copy-start-2 c = search needs
 
 part-copy-end-2 : tie.Need-part-copy-end-2
-part-copy-end-2 c = let s = c .before .before .before .before .before .before .before .before .before in omega (arith, readable-fits (s .args .journal .now) (s .args .u) (c .before .before .before .before .before .tail-at .ensures .0) (s .pre .1))
+part-copy-end-2 c = omega (arith, no-longer (c .before .before .before .before .before))
 
 copy-requires-2 : tie.Need-copy-requires-2
 unfolding memoryOf

@@ -1,7 +1,8 @@
 -- `journal::back::restore_to_mark` meets its contract. The loop's invariant: what is left to give back from here is the whole of it. The measure is what is left of the entries' bytes. Assumes nothing.
 use native.Mathlib.Omega.{arith}
 use borrow.Author.Needs.{needs}
-use Rattle.journal.proofs.Steps.{readable-fits, GoesBack, back-starts, back-readable, back-long, back-inside, mark-card, mark-bytes, back-goes-on}
+use Rattle.journal.proofs.Entries.{readable-fits}
+use Rattle.journal.proofs.GivenBack.{GoesBack, back-starts, back-readable, back-long, back-inside, mark-card, mark-bytes, back-goes-on}
 use Rattle.journal.proofs.back.restore_to_mark.Statement.{statement}
 use Rattle.journal.proofs.back.restore_to_mark.Tie as tie
 
@@ -43,14 +44,23 @@ add-u : tie.Need-add-u Inv-loop μ-loop
 add-u c = search needs
 
 sub-u : tie.Need-sub-u Inv-loop μ-loop
-sub-u c = readable-fits (c .before .before .before .before .before .before .before .before .before .before .before .before .before .before .before .args .journal .now) (c .before .before .before .before .before .before .before .before .before .before .before .loop .u) (c .before .before .before .before .before .before .before .before .before .before .tail-at .ensures .0) (back-readable (c .before .before .before .before .before .before .before .before .before .before .before .loop .inv) (c .before .before .before .before .before .before .before .before .before .before .before .before .before .before .before .pre .0))
+sub-u c =
+    let s = c .before .before .before .before .before .before .before .before .before .before .before .before .before .before .before in
+    let g = c .before .before .before .before .before .before .before .before .before .before .before .loop .inv in
+    readable-fits _ _ (c .before .before .before .before .before .before .before .before .before .before .tail-at .ensures .0) (back-readable g (s .pre .0))
 
 loop-less : tie.Need-loop-less Inv-loop μ-loop
-loop-less c = omega (arith, back-long (c .before .before .before .before .before .before .before .before .before .before .before .loop .inv) (c .before .before .before .before .before .before .before .before .before .before .before .before .before .before .before .pre .0))
+loop-less c =
+    let s = c .before .before .before .before .before .before .before .before .before .before .before .before .before .before .before in
+    let g = c .before .before .before .before .before .before .before .before .before .before .before .loop .inv in
+    omega (arith, back-long g (s .pre .0))
 
 loop-again : tie.Need-loop-again Inv-loop μ-loop
 loop-again c =
-    back-goes-on (c .before .before .before .before .before .before .before .before .before .before .before .loop .inv) (c .before .before .before .before .before .before .before .before .before .before .before .before .before .before .before .pre .0) (c .before .before .before .before .before .before .before .before .before .before .tail-at .ensures .0) (c .before .before .before .before .before .before .before .before .if1 .left) (c .before .before .before .before .before .restore-one .kept .0) (c .before .before .before .before .before .restore-one .kept .1 .0) (c .before .before .before .before .before .restore-one .ensures)
+    let s = c .before .before .before .before .before .before .before .before .before .before .before .before .before .before .before in
+    let g = c .before .before .before .before .before .before .before .before .before .before .before .loop .inv in
+    let r = c .before .before .before .before .before .restore-one in
+    back-goes-on g (s .pre .0) (c .before .before .before .before .before .before .before .before .before .before .tail-at .ensures .0) (c .before .before .before .before .before .before .before .before .if1 .left) (r .kept .0) (r .kept .1 .0) (r .ensures)
 
 pub restore-to-mark-spec : {M : Type 1} → statement M
 restore-to-mark-spec =

@@ -1,18 +1,23 @@
 -- `journal::back::take_back` meets its contract: what the card's soundness tells, and then the steps one after the other. Assumes nothing.
-use Prim.Native.Nat.{_≤_}
+use Prim.Native.Nat.{_+_, _≤_}
 use native.Mathlib.Omega.{arith}
 use borrow.Author.Needs.{needs}
 use lib.ListN.{length}
 use Rattle.card.specs.Row.{Card, lent}
-use Rattle.journal.proofs.Steps.{used-inside, take-back-ready, take-back-steps}
+use Rattle.journal.specs.Entries.{usedBytes}
+use Rattle.journal.proofs.Parts.{used-inside, card-parts}
+use Rattle.journal.proofs.Steps.{take-back-ready, take-back-steps}
 use Rattle.journal.proofs.back.take_back.Statement.{statement}
 use Rattle.journal.proofs.back.take_back.Tie as tie
 
 abbrev whole : tie.Start → Card
 whole s = lent (s .args .table .now) (s .args .files .now) (s .args .journal .now)
 
+inside : (s : tie.Start) → 4 + usedBytes (s .args .journal .now) ≤ length (s .args .journal .now)
+inside s = used-inside _ _ _ (card-parts (whole s) (s .pre .0))
+
 long : (s : tie.Start) → 4 ≤ length (s .args .journal .now)
-long s = omega (arith, used-inside (whole s) (s .pre .0))
+long s = omega (arith, inside s)
 
 used-bytes-requires : tie.Need-used-bytes-requires
 used-bytes-requires c κs = long (c .before .before .before .before)
@@ -41,7 +46,7 @@ sub-fill c = search needs
 fill-requires : tie.Need-fill-requires
 fill-requires c κs =
     let s = c .before .before .before .before .before .before .before .before .before .before .before .before .before .before .before .before .before .before .before .before in
-    omega (arith, used-inside (whole s) (s .pre .0), c .before .before .before .before .before .before .before .before .before .before .before .before .before .before .before .used-bytes .ensures .0, c .before .before .before .before .before .before .before .before .before .restore-to-mark .ensures .2, c .before .before .before .put-head .kept .0)
+    omega (arith, inside s, c .before .before .before .before .before .before .before .before .before .before .before .before .before .before .before .used-bytes .ensures .0, c .before .before .before .before .before .before .before .before .before .restore-to-mark .ensures .2, c .before .before .before .put-head .kept .0)
 
 same-length : tie.Need-same-length
 same-length c = search needs

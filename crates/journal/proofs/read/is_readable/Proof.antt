@@ -4,7 +4,7 @@ use native.Mathlib.Nat.{add-sub-cancel-left}
 use native.Mathlib.Omega.{arith}
 use borrow.Author.Needs.{needs}
 use Rattle.journal.specs.Entries.{tailBytes}
-use Rattle.journal.proofs.Steps.{readable-not, readable-by-form}
+use Rattle.journal.proofs.Tested.{readable-not, readable-by-form}
 use Rattle.journal.proofs.read.is_readable.Statement.{statement}
 use Rattle.journal.proofs.read.is_readable.Tie as tie
 

@@ -1,6 +1,6 @@
 -- `journal::read::tail_formed` meets its contract: the other bytes of a tail are what is read from them. Assumes nothing.
 use borrow.Author.Needs.{needs}
-use Rattle.journal.proofs.Steps.{formed-test}
+use Rattle.journal.proofs.Tested.{formed-test}
 use Rattle.journal.proofs.read.tail_formed.Statement.{statement}
 use Rattle.journal.proofs.read.tail_formed.Tie as tie
 

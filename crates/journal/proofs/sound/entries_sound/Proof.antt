@@ -1,12 +1,14 @@
 -- `journal::sound::entries_sound` meets its contract. The loop's invariant: what is left of the test, from here back, is the whole of it. Assumes nothing.
-use mathlib.Core.Path.{_≡_, refl, sym, _∙_}
+use mathlib.Core.Path.{_≡_, refl}
+use mathlib.Core.Bool.{true}
 use Prim.Native.Nat.{_+_, _≤_}
 use native.Mathlib.Omega.{arith}
 use borrow.Author.Needs.{needs}
-use borrow.Author.Tests.{not-true, not-false}
-use Rattle.journal.specs.Entries.{entriesBack}
+use Rattle.octets.proofs.Picks.{told-false, told-true}
+use Rattle.journal.specs.Entries.{readable, entriesBack}
 use Rattle.journal.specs.Sound.{entriesSound}
-use Rattle.journal.proofs.Steps.{readable-fits, soundFrom, sound-starts, sound-ends, sound-stuck, sound-fails, sound-goes-on}
+use Rattle.journal.proofs.Entries.{readable-fits}
+use Rattle.journal.proofs.Tested.{soundFrom, sound-starts, sound-ends, sound-stuck, sound-fails, sound-goes-on}
 use Rattle.journal.proofs.sound.entries_sound.Statement.{statement}
 use Rattle.journal.proofs.sound.entries_sound.Tie as tie
 
@@ -27,22 +29,25 @@ returns : tie.Need-returns Inv-loop μ-loop
 returns c =
     let a = c .before .before .before .before .before .before .args in
     let l = c .before .before .before .loop in
-    sound-stuck (a .table .now) (a .files) (a .scripts) (a .journal .now) (l .u) (l .marks) (l .oldest) (l .inv .1) (c .before .before .loop-test .taken) (sym (c .before .is-readable .ensures) ∙ not-true (c .before .is-readable .result) (c .if1 .taken))
+    sound-stuck (a .table .now) (a .files) (a .scripts) (a .journal .now) (l .u) (l .marks) (l .oldest) (l .inv .1) (c .before .before .loop-test .taken) (told-false (c .before .is-readable .ensures) (c .if1 .taken))
+
+can-read : (c : tie.Else1 Inv-loop μ-loop) → readable (c .before .before .before .before .before .before .args .journal .now) (c .before .before .before .loop .u) ≡ true
+can-read c = told-true (c .before .is-readable .ensures) (c .if1 .left)
 
 entry-sound-requires : tie.Need-entry-sound-requires Inv-loop μ-loop
-entry-sound-requires c κs = (omega arith, sym (c .before .is-readable .ensures) ∙ not-false (c .before .is-readable .result) (c .if1 .left))
+entry-sound-requires c κs = (omega arith, can-read c)
 
 returns-2 : tie.Need-returns-2 Inv-loop μ-loop
 returns-2 c =
     let a = c .before .before .before .before .before .before .before .before .args in
     let l = c .before .before .before .before .before .loop in
-    sound-fails (a .table .now) (a .files) (a .scripts) (a .journal .now) (l .u) (l .marks) (l .oldest) (l .inv .1) (sym (c .before .before .before .is-readable .ensures) ∙ not-false (c .before .before .before .is-readable .result) (c .before .before .if1 .left)) (sym (c .before .entry-sound .ensures) ∙ not-true (c .before .entry-sound .result) (c .if2 .taken))
+    sound-fails (a .table .now) (a .files) (a .scripts) (a .journal .now) (l .u) (l .marks) (l .oldest) (l .inv .1) (can-read (c .before .before)) (told-false (c .before .entry-sound .ensures) (c .if2 .taken))
 
 tail-at-requires : tie.Need-tail-at-requires Inv-loop μ-loop
 tail-at-requires c κs =
     let a = c .before .before .before .before .before .before .before .before .args in
     let u = c .before .before .before .before .before .loop .u in
-    omega (arith, readable-fits (a .journal .now) u refl (sym (c .before .before .before .is-readable .ensures) ∙ not-false (c .before .before .before .is-readable .result) (c .before .before .if1 .left)))
+    omega (arith, readable-fits (a .journal .now) u refl (can-read (c .before .before)))
 
 one-if-mark-requires : tie.Need-one-if-mark-requires Inv-loop μ-loop
 one-if-mark-requires c κs = tt
@@ -54,8 +59,7 @@ add-u : tie.Need-add-u Inv-loop μ-loop
 add-u c = search needs
 
 sub-u : tie.Need-sub-u Inv-loop μ-loop
-sub-u c =
-    readable-fits (c .before .before .before .before .before .before .before .before .before .before .before .before .args .journal .now) (c .before .before .before .before .before .before .before .before .before .loop .u) (c .before .before .before .tail-at .ensures .0) (sym (c .before .before .before .before .before .before .before .is-readable .ensures) ∙ not-false (c .before .before .before .before .before .before .before .is-readable .result) (c .before .before .before .before .before .before .if1 .left))
+sub-u c = readable-fits _ _ (c .before .before .before .tail-at .ensures .0) (can-read (c .before .before .before .before .before .before))
 
 loop-less : tie.Need-loop-less Inv-loop μ-loop
 loop-less c = search needs
@@ -64,9 +68,9 @@ loop-again : tie.Need-loop-again Inv-loop μ-loop
 loop-again c =
     let a = c .before .before .before .before .before .before .before .before .before .before .before .before .args in
     let l = c .before .before .before .before .before .before .before .before .before .loop in
-    let h = sym (c .before .before .before .before .before .before .before .is-readable .ensures) ∙ not-false (c .before .before .before .before .before .before .before .is-readable .result) (c .before .before .before .before .before .before .if1 .left) in (
+    let h = can-read (c .before .before .before .before .before .before) in (
       omega (arith, readable-fits (a .journal .now) (l .u) (c .before .before .before .tail-at .ensures .0) h),
-      sound-goes-on (a .table .now) (a .files) (a .scripts) (a .journal .now) (l .u) (l .marks) (l .oldest) (l .inv .1) h (sym (c .before .before .before .before .before .entry-sound .ensures) ∙ not-false (c .before .before .before .before .before .entry-sound .result) (c .before .before .before .before .if2 .left)) (c .before .before .before .tail-at .ensures .0) (c .before .one-if-mark .ensures .0),
+      sound-goes-on (a .table .now) (a .files) (a .scripts) (a .journal .now) (l .u) (l .marks) (l .oldest) (l .inv .1) h (told-true (c .before .before .before .before .before .entry-sound .ensures) (c .before .before .before .before .if2 .left)) (c .before .before .before .tail-at .ensures .0) (c .before .one-if-mark .ensures .0),
     )
 
 returns-3 : tie.Need-returns-3 Inv-loop μ-loop

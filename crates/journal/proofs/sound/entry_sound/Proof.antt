@@ -2,7 +2,8 @@
 use mathlib.Core.Path.{refl}
 use native.Mathlib.Omega.{arith}
 use borrow.Author.Needs.{needs}
-use Rattle.journal.proofs.Steps.{readable-fits, entry-empty, entry-first}
+use Rattle.journal.proofs.Entries.{readable-fits}
+use Rattle.journal.proofs.Tested.{entry-empty, entry-first}
 use Rattle.journal.proofs.sound.entry_sound.Statement.{statement}
 use Rattle.journal.proofs.sound.entry_sound.Tie as tie
 

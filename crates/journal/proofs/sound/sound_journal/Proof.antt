@@ -1,13 +1,15 @@
 -- `journal::sound::sound_journal` meets its contract, test by test. Assumes nothing.
-use mathlib.Core.Path.{_≡_, sym, _∙_}
+use mathlib.Core.Path.{_≡_}
+use mathlib.Core.Bool.{and-false}
 use native.Mathlib.Omega.{arith}
-use borrow.Author.Tests.{eq-eqb, ne-eqb, le-leb, lt-leb, not-true, not-false}
+use borrow.Author.Tests.{eq-eqb, ne-eqb, le-leb, lt-leb}
 use borrow.Author.Needs.{needs}
 use lib.ListN.{length}
 use Rattle.octets.specs.Bytes.{byte}
+use Rattle.octets.proofs.Picks.{told-false, told-true}
 use Rattle.journal.specs.Sound.{journalLength, soundJournal}
 use Rattle.journal.specs.Entries.{usedBytes, scriptsOnTrial}
-use Rattle.journal.proofs.Steps.{journalTests, journal-short, journal-test, rest-test, entries-test}
+use Rattle.journal.proofs.Tested.{journalTests, journal-short, journal-test, rest-test, entries-test}
 use Rattle.journal.proofs.sound.sound_journal.Statement.{statement}
 use Rattle.journal.proofs.sound.sound_journal.Tie as tie
 
@@ -34,7 +36,7 @@ sub-if3 c = search needs
 returns-3 : tie.Need-returns-3
 returns-3 c =
     let j = c .before .before .before .before .before .before .before .before .args .journal .now in
-    rw (tests (c .before .before .before .before .before) (omega arith), eq-eqb (byte j 3) 0 (c .before .before .if2 .left), lt-leb (usedBytes j) 2044 (omega arith))
+    rw (tests (c .before .before .before .before .before) (omega arith), lt-leb (usedBytes j) 2044 (omega arith)) (simp and-false)
 
 scripts-on-trial-requires : tie.Need-scripts-on-trial-requires
 scripts-on-trial-requires c κs = search needs
@@ -42,7 +44,7 @@ scripts-on-trial-requires c κs = search needs
 returns-4 : tie.Need-returns-4
 returns-4 c =
     let j = c .before .before .before .before .before .before .before .before .before .before .args .journal .now in
-    rw (tests (c .before .before .before .before .before .before .before) (omega arith), eq-eqb (byte j 3) 0 (c .before .before .before .before .if2 .left), le-leb (usedBytes j) 2044 (omega arith), lt-leb (scriptsOnTrial j) 16 (omega arith))
+    rw (tests (c .before .before .before .before .before .before .before) (omega arith), lt-leb (scriptsOnTrial j) 16 (omega arith)) (simp and-false)
 
 add-all-zero : tie.Need-add-all-zero
 add-all-zero c = search needs
@@ -62,7 +64,7 @@ all-zero-requires c κs = search needs
 returns-5 : tie.Need-returns-5
 returns-5 c =
     let j = c .before .before .before .before .before .before .before .before .before .before .before .before .before .args .journal .now in
-    rw (tests (c .before .before .before .before .before .before .before .before .before .before) (omega arith), eq-eqb (byte j 3) 0 (c .before .before .before .before .before .before .before .if2 .left), le-leb (usedBytes j) 2044 (omega arith), le-leb (scriptsOnTrial j) 16 (omega arith), sym (rest-test j (c .before .before .before .before .before .before .used-bytes .ensures .0) (c .before .all-zero .ensures)) ∙ not-true (c .before .all-zero .result) (c .if5 .taken))
+    rw (tests (c .before .before .before .before .before .before .before .before .before .before) (omega arith), told-false (rest-test j (c .before .before .before .before .before .before .used-bytes .ensures .0) (c .before .all-zero .ensures)) (c .if5 .taken)) (simp and-false)
 
 entries-sound-requires : tie.Need-entries-sound-requires
 entries-sound-requires c κs = search needs
@@ -70,7 +72,7 @@ entries-sound-requires c κs = search needs
 returns-6 : tie.Need-returns-6
 returns-6 c =
     let j = c .before .before .before .before .before .before .before .before .before .before .before .before .before .before .args .journal .now in
-    rw (tests (c .before .before .before .before .before .before .before .before .before .before .before) (omega arith), eq-eqb (byte j 3) 0 (c .before .before .before .before .before .before .before .before .if2 .left), le-leb (usedBytes j) 2044 (omega arith), le-leb (scriptsOnTrial j) 16 (omega arith), sym (rest-test j (c .before .before .before .before .before .before .before .used-bytes .ensures .0) (c .before .before .all-zero .ensures)) ∙ not-false (c .before .before .all-zero .result) (c .before .if5 .left))
+    rw (tests (c .before .before .before .before .before .before .before .before .before .before .before) (omega arith), eq-eqb (byte j 3) 0 (c .before .before .before .before .before .before .before .before .if2 .left), le-leb (usedBytes j) 2044 (omega arith), le-leb (scriptsOnTrial j) 16 (omega arith), told-true (rest-test j (c .before .before .before .before .before .before .before .used-bytes .ensures .0) (c .before .before .all-zero .ensures)) (c .before .if5 .left))
     (entries-test (c .before .before .before .before .before .before .before .before .before .before .before .before .before .before .args .table .now) (c .before .before .before .before .before .before .before .before .before .before .before .before .before .before .args .files .now) j (c .before .before .before .before .before .before .before .used-bytes .ensures .0) (c .before .before .before .before .before .scripts-on-trial .ensures .0) (c .entries-sound .ensures))
 
 pub sound-journal-spec : {M : Type 1} → statement M
