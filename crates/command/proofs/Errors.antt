@@ -1,10 +1,8 @@
 -- "or with an error word, changing nothing": a plan that ends with an error word writes nothing and leaves the session. Assumes nothing.
-use mathlib.Core.Path.{_≡_, refl, ap}
+use mathlib.Core.Path.{_≡_, refl, sym, ap, _∙_}
+use mathlib.Core.Bool.{Bool, true, false, false≢true}
 use mathlib.Core.List.{List, [], _∷_}
-use mathlib.Core.Option.{Option, none, some}
 use Prim.Native.Nat.{ℕ}
-use native.Mathlib.Omega.{arith}
-use lib.Dec.{eqb}
 use Rattle.octets.proofs.Picks.{on-pick}
 use Rattle.card.specs.declared.tree.Found.{Found}
 use Rattle.card.specs.declared.tree.Found.the-variants.{At, Nothing}
@@ -14,12 +12,19 @@ use Rattle.session.specs.declared.Session.{Session}
 use Rattle.command.specs.declared.Format.{Format}
 use Rattle.command.specs.declared.Format.the-variants.{Compact, Expanded}
 use Rattle.command.specs.declared.Command.{Command}
-use Rattle.command.specs.declared.Outcome.the-variants.{Error}
+use Rattle.command.specs.declared.Outcome.{Outcome}
+use Rattle.command.specs.declared.Outcome.the-variants.{Well, FromFiles, FromWaiting, Error}
 use Rattle.command.specs.Outcomes.{Plan, failed, done, handed, produced}
 use Rattle.command.specs.Files.{File}
 use Rattle.command.specs.Plans.{Situation, selectEntry, select, readBinary, updateBinary, readRecord, updateRecord, searched, search, increase, switch, getResponse, doneBy}
-use Rattle.command.specs.Checks.{Check, order, firstFailing}
-use Rattle.command.specs.Commands.{decided, planned, carriedOut}
+use Rattle.command.specs.Commands.{planned, carriedOut}
+use Rattle.command.proofs.Instructed.{of-planned, by-instruction}
+
+abbrev isError : Outcome → Bool
+isError (Well word) = false
+isError (FromFiles word place n) = false
+isError (FromWaiting word n) = false
+isError (Error word) = true
 
 module _ (s : Session) where
   abbrev Still : Plan → Type 0
@@ -29,18 +34,22 @@ module _ (s : Session) where
   unfolding failed
   still-failed word x e = (refl, refl)
 
+  -- what ends well
+  still-well : (p : Plan) → isError (p .outcome) ≡ false → Still p
+  still-well p well x e = absurd (false≢true (sym well ∙ ap isError e))
+
   still-done : (s′ : Session) (word : ℕ) (ws : List Write) → Still (done s′ word ws)
   unfolding done
-  still-done s′ word ws x e = absurd (let z : _≡_ {A = ℕ} 0 1 = cc in omega arith)
+  still-done s′ word ws = still-well (done s′ word ws) refl
 
   still-handed : (s′ : Session) (word place n : ℕ) → Still (handed s′ word place n)
   unfolding handed
-  still-handed s′ word place n x e = absurd (let z : _≡_ {A = ℕ} 0 1 = cc in omega arith)
+  still-handed s′ word place n = still-well (handed s′ word place n) refl
 
   still-produced : (format : Format) (s′ : Session) (word : ℕ) (d : List ℕ) (ws : List Write) → Still (produced format s′ word d ws)
   unfolding produced
-  still-produced Compact s′ word d ws x e = absurd (let z : _≡_ {A = ℕ} 0 1 = cc in omega arith)
-  still-produced Expanded s′ word d ws x e = absurd (let z : _≡_ {A = ℕ} 0 1 = cc in omega arith)
+  still-produced Compact s′ word d ws = still-well (produced Compact s′ word d ws) refl
+  still-produced Expanded s′ word d ws = still-well (produced Expanded s′ word d ws) refl
 
   still-select : (format : Format) (p2 : ℕ) (t : List ℕ) (found : Found) → Still (select format s p2 t found)
   unfolding select selectEntry
@@ -58,29 +67,30 @@ module _ (s : Session) where
 
   still-response : (c : Command) → Still (getResponse c s)
   unfolding getResponse
-  still-response c x e = absurd (let z : _≡_ {A = ℕ} 0 1 = cc in omega arith)
+  still-response c = still-well (getResponse c s) refl
 
-still-by : (i : ℕ) (w : Situation) → Still (w .session) (doneBy i w)
-unfolding doneBy updateBinary readRecord updateRecord search increase switch
-still-by i w =
-    on-pick (Still (w .session)) (eqb i 0xA4) _ _ (λ _. still-select (w .session) _ _ _ (w .found))
-    (λ _. on-pick (Still (w .session)) (eqb i 0xB0) _ _ (λ _. still-read (w .session) _ _ _)
-    (λ _. on-pick (Still (w .session)) (eqb i 0xD6) _ _ (λ _. still-done (w .session) _ _ _)
-    (λ _. on-pick (Still (w .session)) (eqb i 0xB2) _ _ (λ _. still-handed (w .session) _ _ _ _)
-    (λ _. on-pick (Still (w .session)) (eqb i 0xDC) _ _ (λ _. on-pick (Still (w .session)) _ _ _ (λ _. still-done (w .session) _ _ _) (λ _. still-done (w .session) _ _ _))
-    (λ _. on-pick (Still (w .session)) (eqb i 0xA2) _ _ (λ _. still-searched (w .session) (w .format) _)
-    (λ _. on-pick (Still (w .session)) (eqb i 0x32) _ _ (λ _. still-produced (w .session) (w .format) _ _ _ _)
-    (λ _. on-pick (Still (w .session)) (eqb i 0x04) _ _ (λ _. still-done (w .session) _ _ _)
-    (λ _. on-pick (Still (w .session)) (eqb i 0x44) _ _ (λ _. still-done (w .session) _ _ _)
-    (λ _. still-response (w .session) (w .command))))))))))
+module _ (w : Situation) where
+  abbrev s : Session
+  s = w .session
 
-still-decided : (w : Situation) (k : Option Check) → Still (w .session) (decided w k)
-unfolding decided
-still-decided w none = still-by (w .command .instruction) w
-still-decided w (some k) = still-failed (w .session) _
+  still-by : (i : ℕ) → Still s (doneBy i w)
+  unfolding updateBinary readRecord updateRecord search increase switch
+  still-by i =
+      by-instruction (Still s) w i
+      (λ _. still-select s (w .format) (w .command .p2) (w .table) (w .found))
+      (λ _. still-read s (w .format) (w .command) (w .file))
+      (λ _. still-done s _ _ _)
+      (λ _. still-handed s _ _ _ _)
+      (λ _. on-pick (Still s) _ _ _ (λ _. still-done s _ _ _) (λ _. still-done s _ _ _))
+      (λ _. still-searched s (w .format) _)
+      (λ _. still-produced s (w .format) _ _ _ _)
+      (λ _. still-done s _ _ _)
+      (λ _. still-done s _ _ _)
+      (λ _. still-response s (w .command))
 
-pub error-still : (w : Situation) (waiting : List ℕ) (card : Card) (x : ℕ) → planned w .outcome ≡ Error x → (carriedOut (planned w) waiting card .card ≡ card) × (carriedOut (planned w) waiting card .session ≡ w .session)
-unfolding planned carriedOut perform
-error-still w waiting card x e =
-    let k = still-decided w (firstFailing w (order (w .command .instruction))) x e in
-    (ap (λ (ws : List Write). perform ws card) (k .0), k .1)
+  -- the card and the session stay what they were
+  pub error-still : (waiting : List ℕ) (card : Card) (x : ℕ) → planned w .outcome ≡ Error x → (carriedOut (planned w) waiting card .card ≡ card) × (carriedOut (planned w) waiting card .session ≡ s)
+  unfolding carriedOut perform
+  error-still waiting card x e =
+      let k = of-planned (Still s) w (still-failed s) (λ _. still-by (w .command .instruction)) x e in
+      (ap (λ (ws : List Write). perform ws card) (k .0), k .1)

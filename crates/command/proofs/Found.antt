@@ -30,7 +30,7 @@ stays true m number there h = (omega arith, omega arith)
 stays false m number there h = (omega arith, omega arith)
 
 module _ (r : Row) (p2 number : ℕ) (here : 1 ≤ number) (there : number ≤ recordCount r) where
-  few-left : toSearch r p2 number ≤ recordCount r
+  pub few-left : toSearch r p2 number ≤ recordCount r
   unfolding toSearch
   few-left = few _ _ number here there
 
@@ -42,7 +42,7 @@ module _ (r : Row) (p2 number : ℕ) (here : 1 ≤ number) (there : number ≤ r
   unfolding toSearch nextSearched
   next-inside h = stays _ _ number there h
 
-noted-few : (b : Bool) (number : ℕ) → length (noted b number) ≤ 1
+pub noted-few : (b : Bool) (number : ℕ) → length (noted b number) ≤ 1
 unfolding noted pick
 noted-few true number = omega arith
 noted-few false number = omega arith

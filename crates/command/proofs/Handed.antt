@@ -2,7 +2,6 @@
 use mathlib.Core.Path.{_≡_, refl, sym, ap, _∙_}
 use mathlib.Core.Bool.{Bool, true, false, _||_, false≢true}
 use mathlib.Core.List.{List, [], _∷_}
-use mathlib.Core.Option.{Option, none, some}
 use Prim.Native.Nat.{ℕ, _≤_, _<_}
 use lib.Dec.{eqb}
 use native.Mathlib.Omega.{arith}
@@ -24,12 +23,14 @@ use Rattle.session.specs.Session.{mostWaiting}
 use Rattle.session.specs.Good.{Good}
 use Rattle.command.specs.declared.Format.{Format}
 use Rattle.command.specs.declared.Command.{Command}
-use Rattle.command.specs.Instructions.{caseOf}
+use Rattle.command.specs.Instructions as ins
+use Rattle.command.specs.Instructions.{isKnown, noData, caseOf}
 use Rattle.command.specs.Outcomes.{dataCount, OutcomeFits, Plan, failed, done}
 use Rattle.command.specs.Plans.{Situation, selectEntry, select, updateBinary, updateRecord, switch, doneBy}
-use Rattle.command.specs.Checks.{Check, formalChecks, order, caseFits, holds, firstFailing}
-use Rattle.command.specs.Commands.{situation, decided, planned, carriedOut}
-use Rattle.command.proofs.Passed.{AllHold, none-fails}
+use Rattle.command.specs.Checks.{formalChecks, order, caseFits, holds}
+use Rattle.command.specs.Commands.{situation, planned, carriedOut}
+use Rattle.command.proofs.Passed.{none-fails}
+use Rattle.command.proofs.Instructed.{of-planned, by-instruction}
 use Rattle.command.proofs.Fit.{Fit}
 use Rattle.command.proofs.Planned.{planned-fit}
 
@@ -72,35 +73,34 @@ module _ (w : Situation) where
   p2 = w .command .p2
 
   -- an instruction whose case is one of them
-  other-case : {A : Type 0} (i x : ℕ) → handsOut (caseOf x p2) ≡ true → eqb i x ≡ true → handsOut (caseOf i p2) ≡ false → A
-  other-case i x y e h = absurd (false≢true (sym h ∙ ap (λ (k : ℕ). handsOut (caseOf k p2)) (eqb-true i x e) ∙ y))
+  other-case : {A : Type 0} {i : ℕ} (x : ℕ) → handsOut (caseOf x p2) ≡ true → i ≡ x → handsOut (caseOf i p2) ≡ false → A
+  other-case x y e h = absurd (false≢true (sym h ∙ ap (λ (k : ℕ). handsOut (caseOf k p2)) e ∙ y))
 
-  bare-select : (found : Found) → handsOut (caseOf 0xA4 p2) ≡ false → Bare (select (w .format) (w .session) p2 (w .table) found)
+  bare-select : (found : Found) → handsOut (caseOf ins.select p2) ≡ false → Bare (select (w .format) (w .session) p2 (w .table) found)
   unfolding select selectEntry caseOf pick done failed
-  bare-select (At e) h = on-pick Bare (eqb p2 0x0C) _ _ (λ y. refl) (λ n. absurd (false≢true (sym (rw n at h))))
+  bare-select (At e) h = on-pick Bare (eqb p2 noData) _ _ (λ y. refl) (λ n. absurd (false≢true (sym (rw n at h))))
   bare-select Nothing h = refl
 
-  bare-by : (i : ℕ) → handsOut (caseOf i p2) ≡ false → Bare (doneBy i w)
-  unfolding doneBy updateBinary updateRecord switch caseOf pick done
-  bare-by i h =
-      on-pick Bare (eqb i 0xA4) _ _ (λ e. bare-select (w .found) (rw (eqb-true i 0xA4 e) at h))
-      (λ a. on-pick Bare (eqb i 0xB0) _ _ (λ e. other-case i 0xB0 refl e h)
-      (λ b. on-pick Bare (eqb i 0xD6) _ _ (λ e. refl)
-      (λ d. on-pick Bare (eqb i 0xB2) _ _ (λ e. other-case i 0xB2 refl e h)
-      (λ f. on-pick Bare (eqb i 0xDC) _ _ (λ e. on-pick Bare (isCyclic (w .file .row)) _ _ (λ y. refl) (λ n. refl))
-      (λ g. on-pick Bare (eqb i 0xA2) _ _ (λ e. other-case i 0xA2 refl e h)
-      (λ _. on-pick Bare (eqb i 0x32) _ _ (λ e. other-case i 0x32 refl e h)
-      (λ _. on-pick Bare (eqb i 0x04) _ _ (λ e. refl)
-      (λ j. on-pick Bare (eqb i 0x44) _ _ (λ e. refl)
-      (λ k. absurd (false≢true (sym (rw (a, b, d, f, g, j, k) at h) ∙ on-pick (λ n. handsOut n ≡ true) (eqb i 0xC0) 2 4 (λ _. refl) (λ _. refl))))))))))))
+  bare-by : (i : ℕ) → isKnown i ≡ true → handsOut (caseOf i p2) ≡ false → Bare (doneBy i w)
+  unfolding updateBinary updateRecord switch caseOf pick done
+  bare-by i known h =
+      by-instruction Bare w i
+      (λ e. bare-select (w .found) (rw e at h))
+      (λ e. other-case ins.readBinary refl e h)
+      (λ e. refl)
+      (λ e. other-case ins.readRecord refl e h)
+      (λ e. on-pick Bare (isCyclic (w .file .row)) _ _ (λ y. refl) (λ n. refl))
+      (λ e. other-case ins.search refl e h)
+      (λ e. other-case ins.increase refl e h)
+      (λ e. refl)
+      (λ e. refl)
+      (λ last. other-case ins.getResponse refl (last known) h)
 
   pub no-data : (eqb (w .command .case) 2 || eqb (w .command .case) 4) ≡ false → dataCount (planned w .outcome) ≡ 0
-  unfolding planned
-  no-data h = go (firstFailing w (order (w .command .instruction))) refl
-    where
-      its-case : AllHold w (order (w .command .instruction)) → w .command .case ≡ caseOf (w .command .instruction) p2
-      its-case all = unfold order formalChecks holds caseFits in eqb-true _ _ (and-left _ _ (all .1 .1 .1 .1 .0))
-
-      go : (k : Option Check) → firstFailing w (order (w .command .instruction)) ≡ k → Bare (decided w k)
-      go none f = unfold decided in bare-by (w .command .instruction) (rw (its-case (none-fails w (order (w .command .instruction)) f)) at h)
-      go (some k) f = unfold decided failed in refl
+  unfolding order formalChecks holds caseFits failed
+  no-data h =
+      of-planned Bare w (λ word. refl)
+      (λ none.
+      let all = none-fails w (order (w .command .instruction)) none in
+      let its : w .command .case ≡ caseOf (w .command .instruction) p2 = eqb-true _ _ (and-left _ _ (all .1 .1 .1 .1 .0)) in
+      bare-by (w .command .instruction) (all .1 .0) (rw its at h))

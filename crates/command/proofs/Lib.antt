@@ -4,6 +4,7 @@ pub mod Found
 pub mod Sums
 pub mod Rows
 pub mod Placed
+pub mod Instructed
 pub mod Passed
 pub mod Noted
 pub mod Fit
@@ -12,3 +13,5 @@ pub mod Roomy
 pub mod Keeps
 pub mod Handed
 pub mod Errors
+pub mod Readers
+pub mod ReaderCalls

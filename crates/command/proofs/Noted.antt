@@ -4,12 +4,13 @@ use mathlib.Core.List.{List, [], _∷_, _++_}
 use Prim.Native.Nat.{ℕ, zero, suc, _+_, _-_, _≤_}
 use native.Mathlib.Omega.{arith}
 use lib.Dec.{eqb}
-use lib.ListN.{length}
+use lib.ListN.{length, length-append}
 use Rattle.octets.specs.Choice.{pick}
 use Rattle.octets.specs.Bytes.{contains}
 use Rattle.card.specs.declared.Row.{Row}
 use Rattle.card.specs.Sound.{recordCount}
 use Rattle.command.specs.Files.{recordBytes, noted, nextSearched, toSearch, foundAmong, foundRecords, searchForward}
+use Rattle.command.proofs.Found.{few-left, noted-few}
 
 -- n records from a number on, forwards or back, are all among m
 abbrev Among : Bool → ℕ → ℕ → ℕ → Type 0
@@ -30,11 +31,6 @@ unfolding pick
 among-all true m number h g = omega arith
 among-all false m number h g = omega arith
 
-few : (b : Bool) (m number : ℕ) → number ≤ m → 1 ≤ number → pick b (m + 1 - number) number ≤ m
-unfolding pick
-few true m number h g = omega arith
-few false m number h g = h
-
 -- the first of a list, if there is one, is among m
 abbrev pub First : ℕ → List ℕ → Type 0
 First m [] = Unit {0}
@@ -45,16 +41,12 @@ unfolding noted pick
 first-noted true m number rest h g = h
 first-noted false m number rest h g = g
 
-noted-few : (b : Bool) (number n : ℕ) (rest : List ℕ) → length rest ≤ n → length (noted b number ++ rest) ≤ suc n
-unfolding noted pick
-noted-few true number n rest h = omega arith
-noted-few false number n rest h = omega arith
-
 module _ (r : Row) (content : List ℕ) (p2 : ℕ) («data» : List ℕ) where
   among-few : (n number : ℕ) → length (foundAmong r content p2 «data» n number) ≤ n
   unfolding foundAmong
   among-few zero number = omega arith
-  among-few (suc n) number = noted-few (contains (recordBytes r content number) «data») number n _ (among-few n (nextSearched p2 number))
+  among-few (suc n) number =
+      simp length-append (omega (arith, noted-few (contains (recordBytes r content number) «data») number, among-few n (nextSearched p2 number)))
 
   among-first : (m n number : ℕ) → Among (eqb p2 searchForward) m n number → First m (foundAmong r content p2 «data» n number)
   unfolding foundAmong nextSearched
@@ -65,8 +57,8 @@ module _ (r : Row) (content : List ℕ) (p2 : ℕ) («data» : List ℕ) where
 
   module _ (number : ℕ) (here : 1 ≤ number) (there : number ≤ recordCount r) where
     pub found-few : length (foundRecords r content p2 «data» number) ≤ recordCount r
-    unfolding foundRecords toSearch
-    found-few = omega (arith, among-few (toSearch r p2 number) number, few (eqb p2 searchForward) (recordCount r) number there here)
+    unfolding foundRecords
+    found-few = omega (arith, among-few (toSearch r p2 number) number, few-left r p2 number here there)
 
     pub found-first : First (recordCount r) (foundRecords r content p2 «data» number)
     unfolding foundRecords toSearch

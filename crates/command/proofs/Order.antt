@@ -1,8 +1,9 @@
--- Choices by a test that is told, the first check of a list that fails, and the kind of a file that record commands have passed. Assumes nothing.
-use mathlib.Core.Path.{_≡_, refl, sym, ap, _∙_}
+-- Choices by a test that is told, the first check of a list that fails, the checks behind the formal ones, and the kind of a file that record commands have passed. Assumes nothing.
+use mathlib.Core.Path.{_≡_, sym, ap, _∙_}
 use mathlib.Core.Bool.{Bool, true, false, _||_}
 use mathlib.Core.List.{List, [], _∷_}
 use mathlib.Core.Option.{some}
+use mathlib.Core.Logic.{⊎-elim}
 use Prim.Native.Nat.{ℕ}
 use lib.Dec.{eqb}
 use borrow.Author.Tests.{eqb-true}
@@ -10,9 +11,11 @@ use Rattle.octets.specs.Choice.{pick}
 use Rattle.octets.proofs.Picks.{pick-true, pick-false, picks}
 use Rattle.card.specs.declared.Row.{Row}
 use Rattle.card.specs.Row.{hasRecords}
+use Rattle.journal.proofs.Entries.{either}
+use Rattle.command.specs.Instructions as ins
 use Rattle.command.specs.Instructions.{isRecord}
 use Rattle.command.specs.Plans.{Situation}
-use Rattle.command.specs.Checks.{Check, checkWord, holds, firstFailing, failWord, kindFits}
+use Rattle.command.specs.Checks.{Check, selectChecks, responseChecks, fileChecks, laterChecks, checkWord, holds, firstFailing, failWord, kindFits}
 
 -- a choice by a test whose value is known
 module _ {A : Type 0} where
@@ -42,14 +45,24 @@ pub all-hold : (w : Situation) (all : List Check) → firstFailing w all ≡ fir
 unfolding firstFailing failWord
 all-hold w all e = sym (ap failWord e)
 
+-- the checks behind the formal ones
+pub later-select : (i : ℕ) → i ≡ ins.select → laterChecks i ≡ selectChecks
+unfolding laterChecks pick
+later-select i e = rw e
+
+pub later-response : (i : ℕ) → i ≡ ins.getResponse → laterChecks i ≡ responseChecks
+unfolding laterChecks pick
+later-response i e = rw e
+
+pub later-file : (i : ℕ) → eqb i ins.select ≡ false → eqb i ins.getResponse ≡ false → laterChecks i ≡ fileChecks
+unfolding laterChecks pick
+later-file i a b = rw (a, b)
+
 -- a test that a number is one of several
 one-of : {P : Type 0} (i a : ℕ) (b : Bool) → (eqb i a || b) ≡ true → (i ≡ a → P) → (b ≡ true → P) → P
-one-of {P} i a b h f g = go (eqb i a) refl
-  where
-    go : (v : Bool) → eqb i a ≡ v → P
-    go true e = f (eqb-true i a e)
-    go false e = g (rw e at h)
+one-of i a b h f g = ⊎-elim (λ e. f (eqb-true i a e)) (λ e. g (rw e at h)) (either (eqb i a))
 
+-- B2, DC and A2 have passed a file with records
 pub record-kind : (i : ℕ) (r : Row) → isRecord i ≡ true → kindFits i r ≡ true → hasRecords r ≡ true
 unfolding kindFits pick
-record-kind i r h k = one-of i 0xB2 _ h (λ e. rw e at k) (λ g. one-of i 0xDC _ g (λ e. rw e at k) (λ s. rw (eqb-true i 0xA2 s) at k))
+record-kind i r h k = one-of i ins.readRecord _ h (λ e. rw e at k) (λ g. one-of i ins.updateRecord _ g (λ e. rw e at k) (λ s. rw (eqb-true i ins.search s) at k))

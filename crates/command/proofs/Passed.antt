@@ -9,15 +9,17 @@ use lib.Dec.{leb, eqb}
 use lib.ListN.{length}
 use borrow.Author.Tests.{leb-true, ltb-true, eqb-true, eqb-false, not-true}
 use Rattle.octets.specs.Choice.{pick}
-use Rattle.octets.proofs.Picks.{and-left, and-right, pick-false}
+use Rattle.octets.proofs.Picks.{and-left, and-right}
 use Rattle.card.specs.declared.Row.{Row}
 use Rattle.card.specs.Row.{isCyclic}
 use Rattle.card.specs.Sound.{recordCount}
 use Rattle.command.specs.declared.Command.{Command}
+use Rattle.command.specs.Instructions as ins
 use Rattle.command.specs.Instructions.{carriesData, caseOf, isRecord}
 use Rattle.command.specs.Files.{hasRecord}
 use Rattle.command.specs.Plans.{Situation, namedBy}
-use Rattle.command.specs.Checks.{Check, wrongCase, noFile, wrongKind, offsetOutside, noRecord, wrongLength, journalFull, formalChecks, selectChecks, responseChecks, boundChecks, fileChecks, laterChecks, order, caseFits, kindFits, offsetFits, recordFits, lengthFits, holds, firstFailing}
+use Rattle.command.specs.Checks.{Check, wrongCase, noFile, wrongKind, offsetOutside, noRecord, wrongLength, journalFull, formalChecks, boundChecks, fileChecks, order, caseFits, kindFits, offsetFits, recordFits, lengthFits, holds, firstFailing}
+use Rattle.command.proofs.Order.{later-file}
 
 abbrev pub AllHold : Situation → List Check → Type 0
 AllHold w [] = Unit {0}
@@ -50,11 +52,9 @@ unfolding formalChecks fileChecks boundChecks
 all-passed w (_, (_, (_, (_, (case, (_, (_, (file, (kind, (_, (_, (_, (offset, (named, (long, (_, (journal, _))))))))))))))))) =
     record { case = case; file = file; kind = kind; offset = offset; «record» = named; length = long; journal = journal }
 
-pub passed : (w : Situation) (i : ℕ) → eqb i 0xA4 ≡ false → eqb i 0xC0 ≡ false → firstFailing w (order i) ≡ none → Passed w
-unfolding order laterChecks
-passed w i a c h =
-    all-passed w (none-fails w (formalChecks ++ fileChecks)
-    (rw (pick-false (eqb i 0xA4) selectChecks (pick (eqb i 0xC0) responseChecks fileChecks) a, pick-false (eqb i 0xC0) responseChecks fileChecks c) at h))
+pub passed : (w : Situation) (i : ℕ) → eqb i ins.select ≡ false → eqb i ins.getResponse ≡ false → firstFailing w (order i) ≡ none → Passed w
+unfolding order
+passed w i a b h = all-passed w (none-fails w (formalChecks ++ fileChecks) (rw (later-file i a b) at h))
 
 -- "wrong case, Lc 0": an instruction that carries data has some
 some-data : (b : Bool) (n : ℕ) → b ≡ true → not (b && eqb n 0) ≡ true → 1 ≤ n
@@ -66,25 +66,25 @@ data-some c lc y h = some-data (carriesData (c .instruction)) lc y (and-right (e
 
 -- kinds, offsets and lengths
 module _ (i : ℕ) (r : Row) where
-  pub kind-increased : i ≡ 0x32 → kindFits i r ≡ true → (isCyclic r ≡ true) × (r .«record» ≤ 127)
+  pub kind-increased : i ≡ ins.increase → kindFits i r ≡ true → (isCyclic r ≡ true) × (r .«record» ≤ 127)
   unfolding kindFits pick
   kind-increased e h =
       let k = rw e at h in
       (and-left _ _ k, leb-true (r .«record») 127 (and-right (isCyclic r) _ k))
 
-  pub offset-read : (offset : ℕ) → i ≡ 0xB0 → offsetFits i offset r ≡ true → offset < r .size
+  pub offset-read : (offset : ℕ) → i ≡ ins.readBinary → offsetFits i offset r ≡ true → offset < r .size
   offset-read offset e h = ltb-true offset (r .size) (rw e at h)
 
   module _ (offset p3 lc : ℕ) (h : lengthFits i offset p3 lc r ≡ true) where
-    pub length-binary : i ≡ 0xD6 → offset + lc ≤ r .size
+    pub length-binary : i ≡ ins.updateBinary → offset + lc ≤ r .size
     unfolding lengthFits pick
     length-binary e = leb-true (offset + lc) (r .size) (rw e at h)
 
-    pub length-record : i ≡ 0xDC → lc ≡ r .«record»
+    pub length-record : i ≡ ins.updateRecord → lc ≡ r .«record»
     unfolding lengthFits pick
     length-record e = eqb-true lc (r .«record») (rw e at h)
 
-    pub length-increased : i ≡ 0x32 → lc ≤ r .«record»
+    pub length-increased : i ≡ ins.increase → lc ≤ r .«record»
     unfolding lengthFits pick
     length-increased e = leb-true lc (r .«record») (rw e at h)
 
@@ -92,9 +92,9 @@ module _ (i : ℕ) (r : Row) where
 or-last : (a b c : Bool) → a ≡ true → b ≡ false → (not a || (b || c)) ≡ true → c ≡ true
 or-last a b c y z h = rw (y, z) at h
 
-pub named-there : (c : Command) (number : ℕ) (r : Row) → isRecord (c .instruction) ≡ true → (eqb (c .instruction) 0xDC && isCyclic r) ≡ false → recordFits c number r ≡ true → (1 ≤ namedBy c number r) × (namedBy c number r ≤ recordCount r)
+pub named-there : (c : Command) (number : ℕ) (r : Row) → isRecord (c .instruction) ≡ true → (eqb (c .instruction) ins.updateRecord && isCyclic r) ≡ false → recordFits c number r ≡ true → (1 ≤ namedBy c number r) × (namedBy c number r ≤ recordCount r)
 unfolding recordFits hasRecord
 named-there c number r y z h =
     let n = namedBy c number r in
-    let t = or-last (isRecord (c .instruction)) (eqb (c .instruction) 0xDC && isCyclic r) (hasRecord r n) y z h in
+    let t = or-last (isRecord (c .instruction)) (eqb (c .instruction) ins.updateRecord && isCyclic r) (hasRecord r n) y z h in
     (leb-true 1 n (and-left _ _ t), leb-true n (recordCount r) (and-right (leb 1 n) _ t))

@@ -1,18 +1,21 @@
 -- The writes of a command on its file are of a sound form where they go: in the file, at a record, at the oldest place, and at the state; and its records lie in the file memory. Assumes nothing.
-use mathlib.Core.Path.{_≡_}
+use mathlib.Core.Path.{_≡_, sym, _∙_}
 use mathlib.Core.Bool.{true}
 use mathlib.Core.List.{List, [], _∷_}
-use Prim.Native.Nat.{ℕ, _+_, _*_, _/_, _%_, _≤_, _<_}
+use Prim.Native.Nat.{ℕ, _+_, _-_, _*_, _/_, _%_, _≤_, _<_}
+use native.Mathlib.Nat.{div-mul-le-self}
 use native.Mathlib.Omega.{arith}
 use lib.ListN.{length}
 use borrow.Author.Tests.{le-leb, lt-ltb}
 use Rattle.octets.specs.Choice.{pick}
+use Rattle.octets.specs.Bytes.{part}
 use Rattle.octets.proofs.Picks.{and-both}
+use Rattle.octets.proofs.Writes.{part-lent, part-part}
 use Rattle.card.specs.declared.Row.{Row}
 use Rattle.card.specs.Row.{Card, entries, rowOf, isFile, isCyclic, hasRecords, placeOfState}
 use Rattle.card.specs.Sound.{recordCount, newestSound, stateSound, ownSound, soundTable}
 use Rattle.card.specs.Records.{recordPlace, recordOffset, oldestPlace}
-use Rattle.card.proofs.Promises.{records-file, file-inside, record-some, record-short, records-some, records-whole, entry-own}
+use Rattle.card.proofs.Promises.{records-file, file-inside, record-some, record-short, records-some, entry-own}
 use Rattle.card.proofs.Places.{place-below, ends-inside}
 use Rattle.journal.specs.Sound.{tableByteSound, tablePlaceSound, formSound}
 use Rattle.journal.specs.Changes.{tableMemory, kindFor}
@@ -22,6 +25,18 @@ use Rattle.command.specs.Files.{fileAt, writeIn, newRecord}
 newest-byte : (r : Row) (v : ℕ) → isCyclic r ≡ true → 1 ≤ r .«record» → v < recordCount r → tableByteSound r 9 v ≡ true
 unfolding tableByteSound newestSound pick
 newest-byte r v cyclic some below = rw (cyclic, le-leb 1 (r .«record») some) (lt-ltb v (recordCount r) below)
+
+-- a part of a file, as it is lent from the file memory, is that part of the file's content
+pub lent-part : (files : List ℕ) (start size off n : ℕ) → off + n ≤ size → part files (start + off) (start + off + n - (start + off)) ≡ part (part files start size) off n
+lent-part files start size off n h = part-lent files (start + off) n ∙ sym (part-part files start size off n h)
+
+-- a place among the records lies inside the file, and so does every record
+place-inside : (r : Row) (p : ℕ) → p < recordCount r → r .«record» * p + r .«record» ≤ r .size
+place-inside r p l = ends-inside (r .«record») p (recordCount r) (r .size) l (div-mul-le-self (r .size) (r .«record»))
+
+pub offset-inside : (r : Row) → 1 ≤ recordCount r → (k : ℕ) → recordOffset r k + r .«record» ≤ r .size
+unfolding recordOffset recordPlace
+offset-inside r h k = place-inside r _ (place-below (recordCount r) (r .newest) k h)
 
 module _ (card : Card) (sound : soundTable (card .table) (card .files) ≡ true) (e : ℕ) (here : e < entries (card .table)) where
   abbrev r : Row
@@ -56,16 +71,10 @@ module _ (card : Card) (sound : soundTable (card .table) (card .files) ≡ true)
     unfolding recordPlace
     below k = place-below (recordCount r) (r .newest) k (records-some (length (card .files)) r own has)
 
-    place-inside : (p : ℕ) → p < recordCount r → r .«record» * p + r .«record» ≤ r .size
-    place-inside p l =
-        let whole = records-whole (length (card .files)) r own has in
-        ends-inside (r .«record») p (recordCount r) (r .size) l (omega arith)
-
     pub record-inside : (k : ℕ) → r .start + recordOffset r k + r .«record» ≤ length (card .files)
-    unfolding recordOffset
     record-inside k =
         let inside = file-inside (length (card .files)) r own (records-file r has) in
-        let within = place-inside (recordPlace r k) (below k) in
+        let within = offset-inside r (records-some (length (card .files)) r own has) k in
         omega arith
 
     -- one that is written, and a new one with the place that becomes newest
@@ -74,7 +83,7 @@ module _ (card : Card) (sound : soundTable (card .table) (card .files) ≡ true)
       at-place p l =
           let some = record-some (length (card .files)) r own has in
           let short = record-short (length (card .files)) r own has in
-          in-file (records-file r has) (r .«record» * p) new (omega arith) (omega arith) (rw fits (place-inside p l))
+          in-file (records-file r has) (r .«record» * p) new (omega arith) (omega arith) (rw fits (place-inside r p l))
 
       pub in-record : (k : ℕ) → FormSound (writeIn (fileAt card e) (recordOffset r k) new) card
       unfolding recordOffset

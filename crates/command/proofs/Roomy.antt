@@ -1,7 +1,7 @@
 -- What a command plans on a sound card has room in the journal. Assumes nothing.
 use mathlib.Core.Path.{_≡_, refl, ap, _∙_}
 use mathlib.Core.List.{List, []}
-use mathlib.Core.Option.{Option, none, some}
+use mathlib.Core.Option.{none}
 use mathlib.Core.Logic.{⊎-elim}
 use Prim.Native.Nat.{ℕ, _+_, _≤_}
 use native.Mathlib.Omega.{arith}
@@ -19,12 +19,14 @@ use Rattle.session.specs.declared.Session.{Session}
 use Rattle.command.specs.declared.Format.{Format}
 use Rattle.command.specs.declared.Format.the-variants.{Compact, Expanded}
 use Rattle.command.specs.declared.Command.{Command}
+use Rattle.command.specs.Instructions as ins
 use Rattle.command.specs.Outcomes.{Plan, failed, done, produced}
 use Rattle.command.specs.Files.{fileAt}
 use Rattle.command.specs.Plans.{Situation, selectEntry, select, getResponse, doneBy}
-use Rattle.command.specs.Checks.{Check, order, holds, firstFailing, journalFits}
-use Rattle.command.specs.Commands.{situation, decided, planned}
+use Rattle.command.specs.Checks.{order, holds, firstFailing, journalFits}
+use Rattle.command.specs.Commands.{situation, planned}
 use Rattle.command.proofs.Passed.{Passed, passed}
+use Rattle.command.proofs.Instructed.{of-planned}
 
 produced-writes : (format : Format) (s : Session) (word : ℕ) (d : List ℕ) (ws : List Write) → produced format s word d ws .writes ≡ ws
 unfolding produced
@@ -36,11 +38,11 @@ unfolding select selectEntry failed done
 select-writes format s p2 t (At e) = on-pick (λ (p : Plan). p .writes ≡ []) _ _ _ (λ y. refl) (λ y. produced-writes format _ _ _ [])
 select-writes format s p2 t Nothing = refl
 
-select-free : (i : ℕ) (w : Situation) → i ≡ 0xA4 → doneBy i w .writes ≡ []
+select-free : (i : ℕ) (w : Situation) → i ≡ ins.select → doneBy i w .writes ≡ []
 unfolding doneBy pick
 select-free i w e = ap (λ (k : ℕ). doneBy k w .writes) e ∙ select-writes (w .format) (w .session) (w .command .p2) (w .table) (w .found)
 
-response-free : (i : ℕ) (w : Situation) → i ≡ 0xC0 → doneBy i w .writes ≡ []
+response-free : (i : ℕ) (w : Situation) → i ≡ ins.getResponse → doneBy i w .writes ≡ []
 unfolding doneBy getResponse pick
 response-free i w e = ap (λ (k : ℕ). doneBy k w .writes) e
 
@@ -56,19 +58,17 @@ module _ (format : Format) (domain : ℕ) (c : Command) («data» : List ℕ) (s
   unfolding holds journalFits situation fileAt
   file-room p = leb-true _ _ (p .journal)
 
-  done-room : firstFailing (situation format domain c «data» s card) (order (c .instruction)) ≡ none → Room (doneBy (c .instruction) (situation format domain c «data» s card) .writes)
+  abbrev w : Situation
+  w = situation format domain c «data» s card
+
+  done-room : firstFailing w (order (c .instruction)) ≡ none → Room (doneBy (c .instruction) w .writes)
   done-room h =
       let i = c .instruction in
-      let w = situation format domain c «data» s card in
       ⊎-elim
-      (λ e. free _ (select-free i w (eqb-true i 0xA4 e)))
-      (λ a. ⊎-elim (λ e. free _ (response-free i w (eqb-true i 0xC0 e))) (λ b. file-room (passed w i a b h)) (either (eqb i 0xC0)))
-      (either (eqb i 0xA4))
+      (λ e. free _ (select-free i w (eqb-true i ins.select e)))
+      (λ a. ⊎-elim (λ e. free _ (response-free i w (eqb-true i ins.getResponse e))) (λ b. file-room (passed w i a b h)) (either (eqb i ins.getResponse)))
+      (either (eqb i ins.select))
 
-  pub planned-room : usedBytes (card .journal) + cost (planned (situation format domain c «data» s card) .writes) ≤ room (card .journal)
-  unfolding planned situation
-  planned-room = go (firstFailing (situation format domain c «data» s card) (order (c .instruction))) refl
-    where
-      go : (k : Option Check) → firstFailing (situation format domain c «data» s card) (order (c .instruction)) ≡ k → Room (decided (situation format domain c «data» s card) k .writes)
-      go none h = unfold decided in done-room h
-      go (some k) h = unfold decided failed in free [] refl
+  pub planned-room : usedBytes (card .journal) + cost (planned w .writes) ≤ room (card .journal)
+  unfolding situation failed
+  planned-room = of-planned (λ (p : Plan). Room (p .writes)) w (λ word. free [] refl) done-room

@@ -4,15 +4,16 @@ use mathlib.Core.Path.{_≡_, refl, sym, _∙_}
 use mathlib.Core.Bool.{true, false, _&&_}
 use mathlib.Core.List.{List, [], _++_}
 use mathlib.Core.Logic.{⊎-elim}
-use Prim.Native.Nat.{ℕ, _+_, _≤_, _<_}
+use Prim.Native.Nat.{ℕ, _+_, _*_, _≤_, _<_}
 use native.Mathlib.Nat.{eq-zero-or-pos}
 use native.Mathlib.Omega.{arith}
 use lib.ListN.{length}
 use lib.Dec.{eqb}
 use borrow.Author.Tests.{leb-true}
+use Rattle.octets.specs.Choice.{pick}
 use Rattle.octets.proofs.Picks.{on-pick}
 use Rattle.card.specs.declared.Row.{Row}
-use Rattle.card.specs.Row.{Card, lent, Narrow, entries, rowOf, isCyclic, hasRecords, placeOfNewest, placeOfState}
+use Rattle.card.specs.Row.{Card, lent, Narrow, entrySize, entries, rowOf, isCyclic, hasRecords, activated, deactivated, placeOfNewest, placeOfState}
 use Rattle.card.specs.Sound.{recordCount, ownSound}
 use Rattle.card.proofs.Promises.{some-entries, few-entries, cyclic-records, file-inside, record-some, records-some, records-few, entry-own}
 use Rattle.journal.specs.Entries.{usedBytes, room}
@@ -23,22 +24,22 @@ use Rattle.command.specs.declared.Format.the-variants.{Compact}
 use Rattle.command.specs.declared.Command.{Command}
 use Rattle.command.specs.Instructions as ins
 use Rattle.command.specs.Instructions.{isRecord}
-use Rattle.command.specs.Outcomes.{failed}
-use Rattle.command.specs.Files.{Recorded, fileAt}
-use Rattle.command.specs.Plans.{Situation, offsetOf, namedBy, doneBy}
+use Rattle.command.specs.Files.{File, Recorded, fileAt}
+use Rattle.command.specs.Plans.{Situation, offsetOf, namedBy, switch, doneBy}
 use Rattle.command.specs.Checks.{holds, formalChecks, boundChecks, firstFailing, failWord, kindFits, offsetFits, recordFits, lengthFits}
 use Rattle.command.specs.Commands.{situation, planned}
 use Rattle.command.proofs.Order.{record-kind}
+use Rattle.command.proofs.Placed.{offset-inside}
 use Rattle.command.proofs.Passed.{AllHold, kind-increased, offset-read, length-binary, length-record, length-increased, named-there}
-use Rattle.plan.specs.declared.Change.the-variants.{Nothing}
+use Rattle.plan.specs.declared.Change.the-variants.{TableByte}
 use Rattle.plan.specs.declared.Decision.{Decision}
 use Rattle.plan.specs.Decisions.{planOf, Fits, newestOf, updateChange, summed}
-use Rattle.plan.proofs.Inside.{none-fits, record-inside, newest-fits}
+use Rattle.plan.proofs.Inside.{none-fits, newest-fits}
 use Rattle.decide.specs.Decisions.{roomed, Able, Ready, Unroomed, Decided}
-use Rattle.decide.proofs.Plans.{check-fails, check-holds, bounds-hold, roomless-done, room-behind, roomed-inside, plain-sum}
+use Rattle.decide.proofs.Plans.{check-fails, bounds-hold, roomless-done, room-behind, Fails, roomed-inside, plain-sum}
 
 -- what is known of a file command and its file's row once the checks up to the lengths hold
-pub record Passed (files : ℕ) (c : Command) (lc : ℕ) (s : Session) (r : Row) : Type 0 where
+pub record Known (files : ℕ) (c : Command) (lc : ℕ) (s : Session) (r : Row) : Type 0 where
   pub inside : r .start + r .size ≤ files
   pub recorded : hasRecords r ≡ true → Recorded files r
   pub kind : kindFits (c .instruction) r ≡ true
@@ -46,7 +47,8 @@ pub record Passed (files : ℕ) (c : Command) (lc : ℕ) (s : Session) (r : Row)
   pub «record» : recordFits c (s .number) r ≡ true
   pub length : lengthFits (c .instruction) (offsetOf c) (c .p3) lc r ≡ true
 
-module _ {files lc : ℕ} {c : Command} {s : Session} {r : Row} (p : Passed files c lc s r) where
+-- what that gives to the instructions
+module _ {files lc : ℕ} {c : Command} {s : Session} {r : Row} (p : Known files c lc s r) where
   pub to-read : c .instruction ≡ ins.readBinary → offsetOf c < r .size
   to-read e = offset-read (c .instruction) r (offsetOf c) e (p .offset)
 
@@ -70,7 +72,7 @@ module _ {files lc : ℕ} {c : Command} {s : Session} {r : Row} (p : Passed file
   update-fits e t h =
       let has = of-records (rw e) in
       let l = length-record (c .instruction) r (offsetOf c) (c .p3) lc (p .length) e in
-      let i = record-inside r (has .counted) (namedBy c (s .number) r) in
+      let i = offset-inside r (has .counted) (namedBy c (s .number) r) in
       on-pick (Fits t files lc) (isCyclic r) _ _ (λ y. (newest-fits t files (s .file) r has h, l)) (λ n. (p .inside, omega arith))
 
 -- what a card that is ready has
@@ -84,23 +86,33 @@ module _ {card : Card} {s : Session} {c : Command} {lc : ℕ} (ready : Ready car
 
 -- what a sound table and a good session give
 module _ {t files : List ℕ} {s : Session} {c : Command} {lc : ℕ} (can : Able t files s c lc) where
-  pub file-here : s .file < entries t
+  file-here : s .file < entries t
   file-here = ⊎-elim (λ z. let h = some-entries t files (can .table) in omega arith) (λ p. can .good .file p .belongs .inside) (eq-zero-or-pos (s .file))
 
   pub file-small : s .file < 64
   file-small = let h = few-entries t files (can .table) in let g = file-here in omega arith
 
-  pub state-inside : placeOfState (s .file) < length t
+  pub entry-inside : entrySize * s .file + entrySize ≤ length t
+  entry-inside = let h = file-here in omega arith
+
+  pub newest-inside : placeOfNewest (s .file) < length t
+  newest-inside = let h = file-here in omega arith
+
+  state-inside : placeOfState (s .file) < length t
   state-inside = let h = file-here in omega arith
 
   module _ {r : Row} (same : r ≡ rowOf t (s .file)) where
     own : ownSound (length files) r ≡ true
     own = rw same (entry-own t files (can .table) (s .file) file-here)
 
-    pub records-long : hasRecords r ≡ true → 1 ≤ r .«record»
+    records-long : hasRecords r ≡ true → 1 ≤ r .«record»
     records-long has = record-some (length files) r own has
 
-    passed : Narrow r → (w : Situation) → w .command ≡ c → length (w .«data») ≡ lc → w .session ≡ s → w .file .row ≡ r → AllHold w boundChecks → Passed (length files) c lc s r
+    -- what `checked` asks
+    pub to-check : {i : ℕ} → c .instruction ≡ i → (c .instruction ≡ i) × (hasRecords r ≡ true → 1 ≤ r .«record») × (c .p1 < 256) × (c .p2 < 256) × (lc < 65536)
+    to-check e = (e, records-long, can .p1, can .p2, let l = can .brief in omega arith)
+
+    passed : Narrow r → (w : Situation) → w .command ≡ c → length (w .«data») ≡ lc → w .session ≡ s → w .file .row ≡ r → AllHold w boundChecks → Known (length files) c lc s r
     unfolding boundChecks holds
     passed narrow w k l g f h =
         let some : 1 ≤ s .file = rw g at (leb-true 1 (w .session .file) (h .0)) in
@@ -122,43 +134,67 @@ module _ {t files : List ℕ} {s : Session} {c : Command} {lc : ℕ} (can : Able
           length = rw (k, l, f) at (h .1 .1 .1 .1 .1 .1 .1 .0);
         }
 
--- a file command whose file has a row, and the word of its checks up to the lengths
-module _ (domain : ℕ) (c : Command) («data» : List ℕ) (s : Session) (t files : List ℕ) {r : Row} {word : ℕ} (row : r ≡ rowOf t (s .file)) (told : (w : Situation) → w .command ≡ c → length (w .«data») ≡ length «data» → w .domain ≡ domain → w .session ≡ s → w .file .row ≡ r → word ≡ failWord (firstFailing w (formalChecks ++ boundChecks))) where
-  word-of : (format : Format) (journal : List ℕ) → word ≡ failWord (firstFailing (situation format domain c «data» s (lent t files journal)) (formalChecks ++ boundChecks))
-  unfolding situation fileAt
-  word-of format journal = told (situation format domain c «data» s (lent t files journal)) refl refl refl refl (sym row)
+-- an instruction that sets the current file's state
+pub record Switches (i state : ℕ) : Type 0 where
+  pub done : (w : Situation) → doneBy i w ≡ switch state (w .session) (w .file)
+  pub plain : eqb i ins.increase ≡ false
+  pub byte : state < 256
 
-  pub check-failed : (word ≡ 0 → ⊥) → (format : Format) (bytes : List ℕ) {d : Decision} → planOf d «data» bytes ≡ failed s word → d .change ≡ Nothing → Unroomed format domain c «data» s t files bytes d
-  unfolding situation
-  check-failed z format bytes e n =
+pub deactivates : Switches ins.deactivate deactivated
+unfolding doneBy pick
+deactivates = record { done = λ w. refl; plain = refl; byte = omega arith }
+
+pub activates : Switches ins.activate activated
+unfolding doneBy pick
+activates = record { done = λ w. refl; plain = refl; byte = omega arith }
+
+-- what `row_at` says of the file's row, and `checked` of the word of the checks up to the lengths, with so many data bytes
+abbrev pub Read : List ℕ → Session → Row → Type 0
+Read t s r = (r ≡ rowOf t (s .file)) × Narrow r
+
+abbrev pub Told : ℕ → Command → ℕ → Session → Row → ℕ → Type 0
+Told domain c lc s r word = (w : Situation) → w .command ≡ c → length (w .«data») ≡ lc → w .domain ≡ domain → w .session ≡ s → w .file .row ≡ r → word ≡ failWord (firstFailing w (formalChecks ++ boundChecks))
+
+-- what is known where the word is 0
+pub check-passed : {domain : ℕ} {c : Command} («data» : List ℕ) {s : Session} {t files : List ℕ} {r : Row} {word : ℕ} → Read t s r → Told domain c (length «data») s r word → word ≡ 0 → Able t files s c (length «data») → Known (length files) c (length «data») s r
+unfolding situation fileAt
+check-passed {domain} {c} «data» {s} {t} {files} row told zero can =
+    let w = situation Compact domain c «data» s (lent t files []) in
+    passed can (row .0) (row .1) w refl refl refl (sym (row .0)) (bounds-hold w (sym zero ∙ told w refl refl refl refl (sym (row .0))))
+
+module _ {domain : ℕ} {c : Command} {«data» : List ℕ} {s : Session} {t files : List ℕ} {r : Row} {word : ℕ} (row : Read t s r) (told : Told domain c (length «data») s r word) where
+  -- what comes of a check that fails
+  pub check-failed : (word ≡ 0 → ⊥) → {d : Decision} → Fails s word d → (format : Format) (bytes : List ℕ) → Unroomed format domain c «data» s t files bytes d
+  unfolding situation fileAt
+  check-failed z f format bytes =
       record {
-        same = λ journal. e ∙ check-fails (situation format domain c «data» s (lent t files journal)) (word-of format journal) z;
-        fits = none-fits (length t) (length files) (length «data») n;
+        same = λ journal.
+            let w = situation format domain c «data» s (lent t files journal) in
+            f .0 «data» bytes ∙ check-fails w (told w refl refl refl refl (sym (row .0))) z;
+        fits = none-fits _ _ _ (f .1);
       }
 
-  module _ (zero : word ≡ 0) where
-    held : (format : Format) (journal : List ℕ) → AllHold (situation format domain c «data» s (lent t files journal)) (formalChecks ++ boundChecks)
-    held format journal = check-holds (situation format domain c «data» s (lent t files journal)) (sym zero ∙ word-of format journal)
-
-    pub check-passed : Able t files s c (length «data») → Narrow r → Passed (length files) c (length «data») s r
+  -- and of none: the plan of the instruction, with INCREASE's check of the sum, plainly of another, and of those that set the state
+  module _ (zero : word ≡ 0) {i : ℕ} (e : c .instruction ≡ i) where
+    pub check-done : {format : Format} {bytes : List ℕ} {d : Decision} → ((journal : List ℕ) → planOf d «data» bytes ≡ summed i (fileAt (lent t files journal) (s .file)) «data» s (doneBy i (situation format domain c «data» s (lent t files journal)))) → Fits (length t) (length files) (length «data») (d .change) → Unroomed format domain c «data» s t files bytes d
     unfolding situation fileAt
-    check-passed can narrow =
-        let w = situation Compact domain c «data» s (lent t files []) in
-        passed can row narrow w refl refl refl (sym row) (bounds-hold w (held Compact []))
+    check-done {format} so h =
+        record {
+          same = λ journal.
+              let w = situation format domain c «data» s (lent t files journal) in
+              so journal
+              ∙ (λ k. summed (sym e k) (w .file) «data» s (doneBy (sym e k) w))
+              ∙ roomless-done w (sym zero ∙ told w refl refl refl refl (sym (row .0)));
+          fits = h;
+        }
 
-    module _ (i : ℕ) (e : c .instruction ≡ i) (format : Format) (bytes : List ℕ) {d : Decision} where
-      pub check-done : ((journal : List ℕ) → planOf d «data» bytes ≡ summed i (fileAt (lent t files journal) (s .file)) «data» s (doneBy i (situation format domain c «data» s (lent t files journal)))) → Fits (length t) (length files) (length «data») (d .change) → Unroomed format domain c «data» s t files bytes d
-      unfolding situation
-      check-done so h =
-          record {
-            same = λ journal.
-                let w = situation format domain c «data» s (lent t files journal) in
-                so journal ∙ (λ k. summed (sym e k) (w .file) «data» s (doneBy (sym e k) w)) ∙ roomless-done w (held format journal);
-            fits = h;
-          }
+    pub check-plainly : eqb i ins.increase ≡ false → {format : Format} {bytes : List ℕ} {d : Decision} → ((journal : List ℕ) → planOf d «data» bytes ≡ doneBy i (situation format domain c «data» s (lent t files journal))) → Fits (length t) (length files) (length «data») (d .change) → Unroomed format domain c «data» s t files bytes d
+    check-plainly n so = check-done (λ journal. so journal ∙ sym (plain-sum i (fileAt (lent t files journal) (s .file)) «data» s _ n))
 
-      pub check-plainly : eqb i ins.increase ≡ false → ((journal : List ℕ) → planOf d «data» bytes ≡ doneBy i (situation format domain c «data» s (lent t files journal))) → Fits (length t) (length files) (length «data») (d .change) → Unroomed format domain c «data» s t files bytes d
-      check-plainly n so = check-done (λ journal. so journal ∙ sym (plain-sum i (fileAt (lent t files journal) (s .file)) «data» s _ n))
+    pub check-switched : {state : ℕ} → Switches i state → Able t files s c (length «data») → {d : Decision} → ((«data» bytes : List ℕ) (f : File) → f .entry ≡ s .file → planOf d «data» bytes ≡ switch state s f) × (d .change ≡ TableByte (placeOfState (s .file)) state) → (format : Format) (bytes : List ℕ) → Unroomed format domain c «data» s t files bytes d
+    unfolding situation fileAt Fits
+    check-switched this can does format bytes =
+        check-plainly (this .plain) (λ journal. does .0 «data» bytes _ refl ∙ sym (this .done _)) (rw (does .1) (state-inside can, this .byte))
 
 -- with the journal's room: what `with_room` gives, and what it comes to
 abbrev pub WithRoom : Decision → Session → ℕ → ℕ → ℕ → Decision → Type 0

@@ -4,6 +4,7 @@ use mathlib.Core.Path.{_≡_, refl, sym, ap, _∙_}
 use mathlib.Core.Bool.{Bool, true, false, _&&_, false≢true}
 use mathlib.Core.List.{List, [], _∷_, _++_}
 use mathlib.Core.Option.{Option, none, some}
+use mathlib.Core.Logic.{⊎-elim}
 use Prim.Native.Nat.{ℕ, _+_, _%_, _≤_}
 use native.Mathlib.Omega.{arith}
 use lib.ListN.{length}
@@ -15,6 +16,7 @@ use Rattle.card.specs.declared.tree.Found.the-variants as Found
 use Rattle.card.specs.Row.{Card, rowOf}
 use Rattle.journal.specs.Entries.{usedBytes, room}
 use Rattle.journal.specs.Changes.{cost}
+use Rattle.journal.proofs.Entries.{either}
 use Rattle.session.specs.declared.Session.{Session}
 use Rattle.command.specs.Instructions as ins
 use Rattle.command.specs.Instructions.{isKnown}
@@ -23,18 +25,13 @@ use Rattle.command.specs.Files.{File}
 use Rattle.command.specs.Plans.{Situation, selectEntry, select, getResponse, doneBy}
 use Rattle.command.specs.Checks.{Check, holds, checkWord, firstFailing, failWord, wrongPathLength, notFound, nothingWaits, moreThanWaits, sumTooLong, journalFull, selectChecks, responseChecks, boundChecks, fileChecks, laterChecks, formalChecks, order, pathLengthFits, isFound, sumFits, journalFits}
 use Rattle.command.specs.Commands.{decided, planned}
-use Rattle.command.proofs.Order.{passes, fails}
+use Rattle.command.proofs.Order.{passes, fails, later-select, later-response, later-file}
 use Rattle.command.proofs.Passed.{AllHold}
 use Rattle.plan.specs.declared.Change.the-variants.{Nothing}
 use Rattle.plan.specs.declared.Decision.{Decision}
 use Rattle.plan.specs.Decisions.{writesOf, planOf, summed}
 use Rattle.plan.proofs.Inside.{none-fits}
 use Rattle.decide.specs.Decisions.{roomed, responded, behindForm, roomless, Decided}
-
--- by a test's two values
-by-test : {P : Type 0} (v : Bool) → (v ≡ true → P) → (v ≡ false → P) → P
-by-test true f g = f refl
-by-test false f g = g refl
 
 -- whether no check of a list has the word 0
 worded : List Check → Bool
@@ -64,9 +61,10 @@ module _ (w : Situation) where
   unfolding firstFailing failWord
   first-before [] b z = absurd (z refl)
   first-before (k ∷ a) b z =
-      by-test (holds w k)
+      ⊎-elim
       (λ h. passes w k (a ++ b) h ∙ first-before a b (λ e. z (ap failWord (passes w k a h) ∙ e)) ∙ sym (passes w k a h))
       (λ h. pick-false (holds w k) (firstFailing w (a ++ b)) (some k) h ∙ sym (pick-false (holds w k) (firstFailing w a) (some k) h))
+      (either (holds w k))
 
   decided-word : (o : Option Check) → (failWord o ≡ 0 → ⊥) → failed (w .session) (failWord o) ≡ decided w o
   unfolding failWord decided
@@ -82,12 +80,13 @@ module _ (w : Situation) where
   unfolding worded
   word-none [] ok e = tt
   word-none (k ∷ a) ok e =
-      by-test (holds w k)
+      ⊎-elim
       (λ h. (h, word-none a (and-right (ltb 0 (checkWord k)) (worded a) ok) (e ∙ ap failWord (passes w k a h))))
       (λ h.
       let n = ltb-true 0 (checkWord k) (and-left (ltb 0 (checkWord k)) (worded a) ok) in
       let z = e ∙ sym (fails w k a (k ∷ a) refl h) in
       absurd (omega arith))
+      (either (holds w k))
 
   pub first-behind : (a b : List Check) → AllHold w a → firstFailing w (a ++ b) ≡ firstFailing w b
   first-behind [] b h = refl
@@ -125,10 +124,6 @@ path-some p1 n = go (eqb p1 0)
     go false h = leb-true 2 n (and-left (leb 2 n) (leb n 16) (and-right (eqb (n % 2) 0) _ h))
 
 -- SELECT
-later-select : (i : ℕ) → i ≡ ins.select → laterChecks i ≡ selectChecks
-unfolding laterChecks pick
-later-select i e = rw e
-
 pub behind-select : (w : Situation) → w .command .instruction ≡ ins.select → decided w (firstFailing w selectChecks) ≡ behindForm w
 behind-select w e = behind-checks w selectChecks (later-select (w .command .instruction) e)
 
@@ -154,10 +149,6 @@ module _ (w : Situation) where
         sym (select-behind ∙ pick-true _ _ _ (ap isFound g) ∙ ap (λ (i : ℕ). doneBy i w) k ∙ ap (select (w .format) (w .session) (w .command .p2) (w .table)) g)
 
 -- GET RESPONSE
-later-response : (i : ℕ) → i ≡ ins.getResponse → laterChecks i ≡ responseChecks
-unfolding laterChecks pick
-later-response i e = rw e
-
 done-response : (w : Situation) (i : ℕ) → i ≡ ins.getResponse → doneBy i w ≡ getResponse (w .command) (w .session)
 unfolding doneBy pick
 done-response w i e = rw e
@@ -183,23 +174,19 @@ module _ (w : Situation) where
   unfolding roomless formalChecks boundChecks
   check-fails e z = word-fails w (formalChecks ++ boundChecks) (sumTooLong ∷ []) e z
 
-  pub check-holds : 0 ≡ failWord (firstFailing w (formalChecks ++ boundChecks)) → AllHold w (formalChecks ++ boundChecks)
-  unfolding formalChecks boundChecks worded checkWord
-  check-holds e = word-none w (formalChecks ++ boundChecks) refl e
+  module _ (e : 0 ≡ failWord (firstFailing w (formalChecks ++ boundChecks))) where
+    check-holds : AllHold w (formalChecks ++ boundChecks)
+    unfolding formalChecks boundChecks worded checkWord
+    check-holds = word-none w (formalChecks ++ boundChecks) refl e
 
-  module _ (h : AllHold w (formalChecks ++ boundChecks)) where
     pub bounds-hold : AllHold w boundChecks
-    bounds-hold = holds-behind w formalChecks boundChecks h
+    bounds-hold = holds-behind w formalChecks boundChecks check-holds
 
     pub roomless-done : summed (w .command .instruction) (w .file) (w .«data») (w .session) (doneBy (w .command .instruction) w) ≡ roomless w
     unfolding summed holds roomless formalChecks boundChecks
-    roomless-done = sym (ap (decided w) (first-behind w (formalChecks ++ boundChecks) (sumTooLong ∷ []) h) ∙ one-check w sumTooLong)
+    roomless-done = sym (ap (decided w) (first-behind w (formalChecks ++ boundChecks) (sumTooLong ∷ []) check-holds) ∙ one-check w sumTooLong)
 
 -- a file command with the journal's room
-later-file : (i : ℕ) → eqb i ins.select ≡ false → eqb i ins.getResponse ≡ false → laterChecks i ≡ fileChecks
-unfolding laterChecks pick
-later-file i a b = rw (a, b)
-
 module _ (s : Session) (used room : ℕ) (h : used ≤ room) where
   room-failed : (word : ℕ) → roomed used room s (failed s word) ≡ failed s word
   unfolding roomed failed cost
@@ -227,13 +214,17 @@ module _ (w : Situation) (inside : w .file .used ≤ w .file .room) where
       room-last (formalChecks ++ (boundChecks ++ (sumTooLong ∷ [])))
       ∙ ap (λ (ks : List Check). decided w (firstFailing w (formalChecks ++ ks))) (sym (later-file (w .command .instruction) a b))
 
+-- what `plan::failed` says of its decision
+abbrev pub Fails : Session → ℕ → Decision → Type 0
+Fails s word d = ((«data» bytes : List ℕ) → planOf d «data» bytes ≡ failed s word) × (d .change ≡ Nothing)
+
 -- a decision that writes nothing, where the journal's used bytes are inside its room
 pub nothing-decided : (card : Card) («data» bytes : List ℕ) (plan : Plan) (d : Decision) → usedBytes (card .journal) ≤ room (card .journal) → planOf d «data» bytes ≡ plan → d .change ≡ Nothing → Decided card «data» bytes plan d
 unfolding planOf writesOf cost
 nothing-decided card «data» bytes plan d h e n =
     record {
       same = e;
-      fits = none-fits (length (card .table)) (length (card .files)) (length «data») n;
+      fits = none-fits _ _ _ n;
       journal = rw (← e, n) (omega arith);
     }
 

@@ -1,14 +1,14 @@
--- What lies inside a card: no change, a record of a file, and the new record of a cyclic one. Assumes nothing.
+-- What lies inside a card: no change, and the new record of a cyclic file. Assumes nothing.
 use mathlib.Core.Path.{_≡_}
-use Prim.Native.Nat.{ℕ, _+_, _≤_, _<_}
-use native.Mathlib.Nat.{div-mul-le-self}
+use Prim.Native.Nat.{ℕ, _<_}
 use native.Mathlib.Omega.{arith}
 use Rattle.card.specs.declared.Row.{Row}
 use Rattle.card.specs.Row.{placeOfNewest}
 use Rattle.card.specs.Sound.{recordCount}
 use Rattle.card.specs.Records.{recordPlace, recordOffset, oldestPlace}
-use Rattle.card.proofs.Places.{place-below, ends-inside}
+use Rattle.card.proofs.Places.{place-below}
 use Rattle.command.specs.Files.{Recorded}
+use Rattle.command.proofs.Placed.{offset-inside}
 use Rattle.plan.specs.declared.Change.{Change}
 use Rattle.plan.specs.declared.Change.the-variants.{Nothing}
 use Rattle.plan.specs.Decisions.{RecordFits, Fits, newestOf}
@@ -18,11 +18,7 @@ pub none-fits : {change : Change} (t f lc : ℕ) → change ≡ Nothing → Fits
 unfolding Fits
 none-fits t f lc e = rw e tt
 
--- a record lies inside its file, and so does a new one
-pub record-inside : (r : Row) → 1 ≤ recordCount r → (n : ℕ) → recordOffset r n + r .«record» ≤ r .size
-unfolding recordOffset recordPlace
-record-inside r h n = ends-inside (r .«record») _ (recordCount r) (r .size) (place-below (recordCount r) (r .newest) n h) (div-mul-le-self (r .size) (r .«record»))
-
+-- a new record lies inside its file
 pub newest-fits : (t files file : ℕ) (r : Row) → Recorded files r → placeOfNewest file < t → RecordFits t files (newestOf file r)
 unfolding newestOf oldestPlace recordOffset recordPlace
 newest-fits t files file r has h =
@@ -30,7 +26,7 @@ newest-fits t files file r has h =
     let m = has .most in
     record {
       file = has .inside;
-      inside = record-inside r (has .counted) (recordCount r);
+      inside = offset-inside r (has .counted) (recordCount r);
       entry = h;
       byte = omega arith;
     }

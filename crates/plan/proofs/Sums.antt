@@ -12,7 +12,7 @@ use lib.Dec.{ltb}
 use borrow.Author.Tests.{lt-ltb, le-ltb}
 use Rattle.octets.specs.Bytes.{part, value, bytesOf, overwrite}
 use Rattle.octets.proofs.Picks.{pick-true, pick-false}
-use Rattle.octets.proofs.Writes.{part-lent, part-length, part-part, write-two}
+use Rattle.octets.proofs.Writes.{part-lent, part-length, write-two}
 use Rattle.octets.proofs.Numbers.{bytesOf-length}
 use Rattle.card.specs.declared.Row.{Row}
 use Rattle.card.specs.Records.{recordOffset}
@@ -21,6 +21,7 @@ use Rattle.command.specs.Instructions as ins
 use Rattle.command.specs.Outcomes.{Plan, failed}
 use Rattle.command.specs.Files.{File, recordBytes, sum, writeIn, newRecord}
 use Rattle.command.specs.Checks.{checkWord, sumFits}
+use Rattle.command.proofs.Placed.{lent-part}
 use Rattle.plan.specs.declared.Change.the-variants.{SumRecord}
 use Rattle.plan.specs.Decisions.{recordWrites, writesOf, newestOf, summed}
 
@@ -56,7 +57,7 @@ module _ {files : List ℕ} {s : Session} {r : Row} {off : ℕ} {f : File} (h : 
   first-sum : added ≡ sum (f .row) (f .content) «data»
   unfolding sum recordBytes
   first-sum =
-      rw (h .row, h .content, ← (h .at), part-lent files (r .start + off) (r .«record»), part-part files (r .start) (r .size) off (r .«record») (h .inside))
+      rw (h .row, h .content, ← (h .at), lent-part files (r .start) (r .size) off (r .«record») (h .inside))
 
   width : length (first files r off) ≡ f .row .«record»
   width = first-length files r off (h .inside) (h .lies) ∙ ap (λ (q : Row). q .«record») (sym (h .row))

@@ -6,10 +6,12 @@ use Prim.Native.Nat.{ℕ}
 use native.Mathlib.Omega.{arith}
 use borrow.Author.Tests.{not-true, not-false}
 use lib.ListN.{length}
+use Rattle.card.specs.declared.tree.Found.the-variants as Found
 use Rattle.card.specs.Row.{rowOf}
+use Rattle.session.specs.Select.{find}
 use Rattle.command.specs.declared.Command.{Command}
 use Rattle.command.specs.Outcomes.{failed}
-use Rattle.command.specs.Plans.{selectEntry}
+use Rattle.command.specs.Plans.{Situation, selectEntry}
 use Rattle.command.specs.Checks.{pathLengthFits}
 use Rattle.decide.proofs.Plans.{path-some, select-wrong, select-lost, select-found}
 use borrow.Author.Needs.{needs}
@@ -37,13 +39,21 @@ cast-find-2 : tie.Need-cast-find-2
 cast-find-2 c = search needs
 
 -- the data have a length that fits
-fitting : (c : tie.Else1) → pathLengthFits (c .before .before .before .before .before .args .c .p1) (length (c .before .before .before .before .before .args .«data» .now)) ≡ true
-fitting c = sym (c .before .path-length-fits .ensures) ∙ not-false _ (c .if1 .left)
+module _ (c : tie.Else1) where
+  abbrev start : tie.Start
+  start = c .before .before .before .before .before
+
+  fitting : pathLengthFits (start .args .c .p1) (length (start .args .«data» .now)) ≡ true
+  fitting = sym (c .before .path-length-fits .ensures) ∙ not-false _ (c .if1 .left)
+
+  fitting-so : (w : Situation) → w .command ≡ start .args .c → w .«data» ≡ start .args .«data» .now → pathLengthFits (w .command .p1) (length (w .«data»)) ≡ true
+  fitting-so w k d = (λ i. pathLengthFits (k i .p1) (length (d i))) ∙ fitting
 
 find-requires : tie.Need-find-requires
 find-requires c κs =
-    let s = c .before .before .before .before .before .before .before in
-    (s .pre .3, s .pre .4, s .pre .5, path-some (s .args .c .p1) (length (s .args .«data» .now)) (fitting (c .before .before)))
+    let k = c .before .before in
+    let s = start k in
+    (s .pre .3, s .pre .4, s .pre .5, path-some (s .args .c .p1) (length (s .args .«data» .now)) (fitting k))
 
 enum-known-e : tie.Need-enum-known-e
 enum-known-e c = search needs
@@ -57,20 +67,32 @@ failed-requires-2 c κs = search needs
 returns-2 : tie.Need-returns-2
 returns-2 c = (
   λ w f k d s t g.
-      c .failed2 .ensures .0 (c .before .before .before .before .before .before .before .before .before .before .before .args .«data» .now) _ ∙ (λ i. failed (sym s i) 0x6A82)
-      ∙ select-lost w ((λ i. pathLengthFits (k i .p1) (length (d i))) ∙ fitting (c .before .before .before .before .before .before)) (g ∙ sym (c .before .before .before .find .ensures) ∙ c .before .enum-told .given .1),
+      c .failed2 .ensures .0 (start (c .before .before .before .before .before .before) .args .«data» .now) _ ∙ (λ i. failed (sym s i) 0x6A82)
+      ∙ select-lost w (fitting-so (c .before .before .before .before .before .before) w k d) (g ∙ sym (c .before .before .before .find .ensures) ∙ c .before .enum-told .given .1),
   c .failed2 .ensures .1,
 )
 
+-- an entry is found
+module _ (c : tie.After-e) where
+  abbrev found : ℕ
+  found = c .e .given .0 .0
+
+  abbrev origin : tie.Start
+  origin = start (c .before .before .before .before .before)
+
+  there : find (origin .args .table .now) (origin .args .s .root) (origin .args .s .directory) (origin .args .c .p1) (origin .args .«data» .now) ≡ Found.At found
+  there = sym (c .before .before .find .ensures) ∙ c .e .given .1
+
 row-at-requires : tie.Need-row-at-requires
 row-at-requires c κs =
-    let h = c .before .before .before .before .before .before .before .before .before .before .before .pre .2 (c .before .e .given .0 .0) (sym (c .before .before .before .find .ensures) ∙ c .before .e .given .1) in
-    omega (arith, h .0)
+    let k = c .before in
+    omega (arith, origin k .pre .2 (found k) (there k) .0)
 
 select-entry-requires : tie.Need-select-entry-requires
 select-entry-requires c κs =
-    let p = c .before .before .before .before .before .before .before .before .before .before .before .before .before .pre in
-    let h = p .2 (c .before .before .before .e .given .0 .0) (sym (c .before .before .before .before .before .find .ensures) ∙ c .before .before .before .e .given .1) in
+    let k = c .before .before .before in
+    let p = origin k .pre in
+    let h = p .2 (found k) (there k) in
     (rw (c .before .row-at .ensures .0) (h .2), c .before .row-at .ensures .1, h .1, p .0)
 
 same-length : tie.Need-same-length
@@ -78,12 +100,13 @@ same-length c = search needs
 
 returns-3 : tie.Need-returns-3
 returns-3 c =
-    let a = c .before .before .before .before .before .before .before .before .before .before .before .before .before .before .before .before .args in
-    let e = c .before .before .before .before .before .before .e .given in (
+    let n = c .before .before .before .before .before .before in
+    let z = origin n in
+    let e = found n in (
       λ w f k d s t g.
-          c .before .before .select-entry .ensures .0 (a .«data» .now)
-          ∙ (λ i. selectEntry (sym f i) (sym s i) (sym k i .p2) (e .0 .0) ((c .before .before .before .before .row-at .ensures .0 ∙ ap (λ (l : List ℕ). rowOf l (e .0 .0)) (sym t)) i))
-          ∙ select-found w ((λ i. pathLengthFits (k i .p1) (length (d i))) ∙ fitting (c .before .before .before .before .before .before .before .before .before .before .before)) (e .0 .0) (g ∙ sym (c .before .before .before .before .before .before .before .before .find .ensures) ∙ e .1) (ap (λ (q : Command). q .instruction) k ∙ c .before .before .before .before .before .before .before .before .before .before .before .before .before .before .before .before .pre .1),
+          c .before .before .select-entry .ensures .0 (z .args .«data» .now)
+          ∙ (λ i. selectEntry (sym f i) (sym s i) (sym k i .p2) e ((c .before .before .before .before .row-at .ensures .0 ∙ ap (λ (l : List ℕ). rowOf l e) (sym t)) i))
+          ∙ select-found w (fitting-so (n .before .before .before .before .before) w k d) e (g ∙ there n) (ap (λ (q : Command). q .instruction) k ∙ z .pre .1),
       c .before .before .select-entry .ensures .1,
     )
 

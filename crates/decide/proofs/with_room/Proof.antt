@@ -26,7 +26,7 @@ returns : tie.Need-returns
 unfolding planOf roomed checkWord
 returns c =
     let s = c .before .before .before in
-    (λ «data» bytes l b. le-no (s .args .used + cost (writesOf (s .args .d .change) «data» bytes)) (s .args .room) (planOf (s .args .d) «data» bytes) (omega (arith, c .before .before .cost-of .ensures .0 «data» bytes l b)) (c .failed .ensures .0 «data» bytes), λ t f h. none-fits t f (s .args .lc) (c .failed .ensures .1))
+    (λ «data» bytes l b. le-no (s .args .used + cost (writesOf (s .args .d .change) «data» bytes)) (s .args .room) (planOf (s .args .d) «data» bytes) (omega (arith, c .before .before .cost-of .ensures .0 «data» bytes l b)) (c .failed .ensures .0 «data» bytes), λ t f h. none-fits _ _ _ (c .failed .ensures .1))
 
 returns-2 : tie.Need-returns-2
 unfolding planOf roomed

@@ -26,10 +26,15 @@ limited-requires c κs =
     let s = c .before .before .before .before .before .before .before .before .before .before .before .before .before in
     (s .pre .2, decided-few (s .args .format) (s .args .domain) (s .args .c) (s .args .«data» .now) (s .args .s) (cardOf s) (s .pre .0) _ (c .before .before .decide .result) (c .before .before .decide .ensures))
 
+-- where a command started that was held to the 1,000 bytes
+abbrev start : tie.After-limited → tie.Start
+start c = c .before .before .before .before .before .before .before .before .before .before .before .before .before .before
+
 carry-out-requires : tie.Need-carry-out-requires
 carry-out-requires c κs =
-    let s = c .before .before .before .before .before .before .before .before .before .before .before .before .before .before .before .before .before .before .before in
-    let d = c .before .before .before .before .before .limited .ensures _ _ _ _ (c .before .before .before .before .before .before .before .before .decide .ensures) in
+    let k = c .before .before .before .before .before in
+    let s = start k in
+    let d = k .limited .ensures _ _ _ _ (k .before .before .before .decide .ensures) in
     let whole : length (s .args .journal .now) ≡ 2048 = card-parts (cardOf s) (s .pre .0 .sound) .size in (
       d .fits,
       search needs,
@@ -57,9 +62,10 @@ same-length-5 c = search needs
 
 returns : tie.Need-returns
 returns c =
-    let s = c .before .before .before .before .before .before .before .before .before .before .before .before .before .before .before .before .before .before .before .before .before .before .before .before .before .before .before .before in
-    let d = c .before .before .before .before .before .before .before .before .before .before .before .before .before .before .limited .ensures _ _ _ _ (c .before .before .before .before .before .before .before .before .before .before .before .before .before .before .before .before .before .decide .ensures) in
-    (c .before .before .before .before .before .before .before .before .carry-out .ensures .0 ∙ ap (λ (p : Plan). carriedOut p (s .args .waiting .now) (cardOf s)) (d .same), c .before .before .before .before .before .before .before .before .carry-out .ensures .1)
+    let k = c .before .before .before .before .before .before .before .before .before .before .before .before .before .before in
+    let d = k .limited .ensures _ _ _ _ (k .before .before .before .decide .ensures) in
+    let carried = c .before .before .before .before .before .before .before .before .carry-out .ensures in
+    (carried .0 ∙ ap (λ (p : Plan). carriedOut p (start k .args .waiting .now) (cardOf (start k))) (d .same), carried .1)
 
 pub run-command-spec : {M : Type 1} → statement M
 run-command-spec =

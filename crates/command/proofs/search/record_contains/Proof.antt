@@ -1,10 +1,10 @@
 -- `command::search::record_contains` meets its contract: a record of a file is a part of the file memory. Assumes nothing.
-use mathlib.Core.Path.{_≡_, sym, ap, _∙_}
+use mathlib.Core.Path.{ap, _∙_}
 use mathlib.Core.List.{List}
-use Prim.Native.Nat.{ℕ, _+_, _-_, _≤_}
-use Rattle.octets.specs.Bytes.{part, contains}
-use Rattle.octets.proofs.Writes.{part-lent, part-part}
+use Prim.Native.Nat.{ℕ}
+use Rattle.octets.specs.Bytes.{contains}
 use Rattle.command.specs.Files.{recordBytes}
+use Rattle.command.proofs.Placed.{lent-part}
 use borrow.Author.Needs.{needs}
 use Rattle.command.proofs.search.record_contains.Statement.{statement}
 use Rattle.command.proofs.search.record_contains.Tie as tie
@@ -30,15 +30,12 @@ part-within-end c = search needs
 within-requires : tie.Need-within-requires
 within-requires c κs = search needs
 
-lies : (files : List ℕ) (start size off n : ℕ) → off + n ≤ size → part files (start + off) (start + off + n - (start + off)) ≡ part (part files start size) off n
-lies files start size off n h = part-lent files (start + off) n ∙ sym (part-part files start size off n h)
-
 returns : tie.Need-returns
 unfolding recordBytes
 returns c =
     let s = c .before .before .before .before .before .before .before .args in
     let o = c .before .before .before .before .record-offset in
-    rw (← (o .ensures .0)) (c .within .ensures ∙ ap (λ (l : List ℕ). contains l (s .«data» .now)) (lies (s .files .now) (s .r .start) (s .r .size) (o .result) (s .r .«record») (o .ensures .1)))
+    rw (← (o .ensures .0)) (c .within .ensures ∙ ap (λ (l : List ℕ). contains l (s .«data» .now)) (lent-part (s .files .now) (s .r .start) (s .r .size) (o .result) (s .r .«record») (o .ensures .1)))
 
 pub record-contains-spec : {M : Type 1} → statement M
 record-contains-spec =

@@ -17,14 +17,18 @@ unfolding planOf
 perform-requires c κs = let p = c .before .before .before .before .before .before .before .before .before .before .before .pre in (p .0, p .1, p .3, p .4, p .5)
 
 -- what was made is as long as the decision says
-made-long : (c : tie.After-struct-known) → length (take (c .before .before .before .before .before .before .before .before .args .d .made) (c .before .before .before .before .before .before .before .before .args .made .now)) ≡ c .before .before .before .before .before .before .before .before .args .d .made
-made-long c = length-take-le (c .before .before .before .before .before .before .before .before .args .d .made) (c .before .before .before .before .before .before .before .before .args .made .now) (omega (arith, cast-n c, c .before .before .before .before .before .before .before .before .pre .1))
+module _ (c : tie.After-struct-known) where
+  abbrev start : tie.Start
+  start = c .before .before .before .before .before .before .before .before
+
+  made-long : length (take (start .args .d .made) (start .args .made .now)) ≡ start .args .d .made
+  made-long = length-take-le (start .args .d .made) (start .args .made .now) (omega (arith, cast-n c, start .pre .1))
 
 slice-aggregate-copy : tie.Need-slice-aggregate-copy
 slice-aggregate-copy c = sym (made-long (c .before .before .before .before .before .before .before .before .before .before .before .before))
 
 copy-requires : tie.Need-copy-requires
-copy-requires c κs = rw (made-long (c .before .before .before .before .before .before .before .before .before .before .before .before)) (omega (arith, cast-n (c .before .before .before .before .before .before .before .before .before .before .before .before), c .before .before .before .before .before .before .before .before .before .before .before .before .before .before .before .before .before .before .before .before .pre .2))
+copy-requires c κs = let k = c .before .before .before .before .before .before .before .before .before .before .before .before in rw (made-long k) (omega (arith, cast-n k, start k .pre .2))
 
 add-t24 : tie.Need-add-t24
 add-t24 c = search needs

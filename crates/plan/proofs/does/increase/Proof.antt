@@ -44,24 +44,29 @@ same-length : tie.Need-same-length
 same-length c = search needs
 
 -- the file, in the terms of the code
-raised : (c : tie.After-record-offset) (f : File) → f .row ≡ c .before .before .before .before .args .r → f .entry ≡ c .before .before .before .before .args .s .file → f .content ≡ part (c .before .before .before .before .args .files .now) (c .before .before .before .before .args .r .start) (c .before .before .before .before .args .r .size) → Raised (c .before .before .before .before .args .files .now) (c .before .before .before .before .args .s) (c .before .before .before .before .args .r) (c .record-offset .result) f
-raised c f row entry content =
-    record {
-      at = c .record-offset .ensures .0;
-      inside = c .record-offset .ensures .1;
-      lies = c .before .before .before .before .pre .0 .inside;
-      row = row;
-      entry = entry;
-      content = content;
-    }
+module _ (c : tie.After-record-offset) where
+  abbrev start : tie.Start
+  start = c .before .before .before .before
+
+  raised : (f : File) → f .row ≡ start .args .r → f .entry ≡ start .args .s .file → f .content ≡ part (start .args .files .now) (start .args .r .start) (start .args .r .size) → Raised (start .args .files .now) (start .args .s) (start .args .r) (c .record-offset .result) f
+  raised f row entry content =
+      record {
+        at = c .record-offset .ensures .0;
+        inside = c .record-offset .ensures .1;
+        lies = start .pre .0 .inside;
+        row = row;
+        entry = entry;
+        content = content;
+      }
 
 returns : tie.Need-returns
 returns c =
-    let a = c .before .before .before .before .before .before .before .before .before .before .before .before .args in (
+    let k = c .before .before .before .before .before .before .before .before in
+    let a = start k .args in (
       λ f row entry content.
           c .failed .ensures .0 (a .«data» .now) _
-          ∙ sum-fails (raised (c .before .before .before .before .before .before .before .before) f row entry content) (a .«data» .now) (c .before .before .before .before .add .ensures .0) (c .before .if1 .taken) (plans.increase (a .format) (a .«data» .now) (a .s) f),
-      λ t h. none-fits t (length (a .files .now)) (length (a .«data» .now)) (c .failed .ensures .1),
+          ∙ sum-fails (raised k f row entry content) (a .«data» .now) (c .before .before .before .before .add .ensures .0) (c .before .if1 .taken) (plans.increase (a .format) (a .«data» .now) (a .s) f),
+      λ t h. none-fits _ _ _ (c .failed .ensures .1),
     )
 
 copy-requires : tie.Need-copy-requires
@@ -88,13 +93,15 @@ same-length-2 c = search needs
 returns-2 : tie.Need-returns-2
 unfolding plans.increase Fits newestOf
 returns-2 c =
-    let a = c .before .before .before .before .before .before .before .before .before .before .before .before .before .before .before .before .before .before .before .args in
-    let p = c .before .before .before .before .before .before .before .before .before .before .before .before .before .before .before .before .before .before .before .pre in (
+    let k = c .before .before .before .before .before .before .before .before .before .before .before .before .before .before .before in
+    let a = start k .args in
+    let p = start k .pre in
+    let sum-made = c .before .before .before .before .before .before .before .before .before .before .before .add .ensures in (
       λ f row entry content.
-          let h = raised (c .before .before .before .before .before .before .before .before .before .before .before .before .before .before .before) f row entry content in
+          let h = raised k f row entry content in
           let out = bytesOf (f .row .«record») (sum (f .row) (f .content) (a .«data» .now)) ++ a .«data» .now in
-          let e = new-bytes h (a .«data» .now) (a .made .now) (p .3) (omega (arith, p .1, p .2)) (c .before .before .before .before .before .before .before .before .before .before .before .add .ensures .1) (c .before .before .before .before .before .before .copy .ensures) in
-          sum-done h (a .«data» .now) (c .before .before .before .before .before .before .before .before .before .before .before .add .ensures .0) (c .before .before .before .before .before .before .before .before .if1 .left)
+          let e = new-bytes h (a .«data» .now) (a .made .now) (p .3) (omega (arith, p .1, p .2)) (sum-made .1) (c .before .before .before .before .before .before .copy .ensures) in
+          sum-done h (a .«data» .now) (sum-made .0) (c .before .before .before .before .before .before .before .before .if1 .left)
           (c .produced .ensures .0 (a .«data» .now) _ out (a .made .now) e (new-count h (a .«data» .now))
           ∙ (λ i. produced (a .format) (c .before .before .before .at-record .ensures i) normal out (writesOf (SumRecord (c .before .new-record .ensures i)) (a .«data» .now) (e i)))
           ∙ (λ i. produced (a .format) (atRecord (a .s) 1) normal out (new-writes h (a .«data» .now) (a .made .now) i))),

@@ -31,22 +31,32 @@ same-length : tie.Need-same-length
 same-length c = search needs
 
 -- what is found, as the code names it and as the definition does
-abbrev found : tie.After-search → List ℕ
-found c =
-    let a = c .before .before .before .before .before .before .before .args in
-    foundRecords (a .r) (part (a .files .now) (a .r .start) (a .r .size)) (a .c .p2) (a .«data» .now) (c .before .before .record-of .result)
+module _ (c : tie.After-search) where
+  abbrev start : tie.Start
+  start = c .before .before .before .before .before .before .before
 
-as-named : (c : tie.After-search) (f : File) → f .row ≡ c .before .before .before .before .before .before .before .args .r → f .content ≡ part (c .before .before .before .before .before .before .before .args .files .now) (c .before .before .before .before .before .before .before .args .r .start) (c .before .before .before .before .before .before .before .args .r .size) → searched (c .before .before .before .before .before .before .before .args .format) (c .before .before .before .before .before .before .before .args .s) (found c) ≡ plans.search (c .before .before .before .before .before .before .before .args .format) (c .before .before .before .before .before .before .before .args .c) (c .before .before .before .before .before .before .before .args .«data» .now) (c .before .before .before .before .before .before .before .args .s) f
-unfolding plans.search
-as-named c f row content =
-    let a = c .before .before .before .before .before .before .before .args in
-    λ i. searched (a .format) (a .s) (foundRecords (sym row i) (sym content i) (a .c .p2) (a .«data» .now) ((c .before .before .record-of .ensures ∙ ap (namedBy (a .c) (a .s .number)) (sym row)) i))
+  abbrev found : List ℕ
+  found =
+      let a = start .args in
+      foundRecords (a .r) (part (a .files .now) (a .r .start) (a .r .size)) (a .c .p2) (a .«data» .now) (c .before .before .record-of .result)
+
+  as-named : (f : File) → f .row ≡ start .args .r → f .content ≡ part (start .args .files .now) (start .args .r .start) (start .args .r .size) → searched (start .args .format) (start .args .s) found ≡ plans.search (start .args .format) (start .args .c) (start .args .«data» .now) (start .args .s) f
+  unfolding plans.search
+  as-named f row content =
+      let a = start .args in
+      λ i. searched (a .format) (a .s) (foundRecords (sym row i) (sym content i) (a .c .p2) (a .«data» .now) ((c .before .before .record-of .ensures ∙ ap (namedBy (a .c) (a .s .number)) (sym row)) i))
 
 returns : tie.Need-returns
 unfolding writesOf
 returns c =
-    let a = c .before .before .before .before .before .before .before .before .before .before .before .args in
-    (λ f row content. c .done .ensures .0 (a .«data» .now) _ ∙ searched-none (a .format) (a .s) (found (c .before .before .before .before)) (sym (c .before .before .before .before .search .ensures .1) ∙ c .before .if1 .taken) ∙ as-named (c .before .before .before .before) f row content, c .done .ensures .1)
+    let k = c .before .before .before .before in
+    let a = start k .args in (
+      λ f row content.
+          c .done .ensures .0 (a .«data» .now) _
+          ∙ searched-none (a .format) (a .s) (found k) (sym (k .search .ensures .1) ∙ c .before .if1 .taken)
+          ∙ as-named k f row content,
+      c .done .ensures .1,
+    )
 
 slice-read-wide : tie.Need-slice-read-wide
 slice-read-wide c = search needs
@@ -59,9 +69,9 @@ at-record-requires c κs = search needs
 
 produced-requires : tie.Need-produced-requires
 produced-requires c κs =
-    let s = c .before .before .before .before .before .before .search in
-    let l : length (found (c .before .before .before .before .before .before)) ≤ length (c .before .before .before .before .before .before .before .before .before .before .before .before .before .args .made .now) = write-short _ _ (sym (ap length (s .ensures .0)) ∙ s .kept .1 .1 .1 .1 .1 .0) in
-    (omega (arith, s .ensures .1, c .before .before .before .before .before .before .before .before .before .before .before .before .before .pre .4), omega arith)
+    let k = c .before .before .before .before .before .before in
+    let l : length (found k) ≤ length (start k .args .made .now) = write-short _ _ (sym (ap length (k .search .ensures .0)) ∙ k .search .kept .1 .1 .1 .1 .1 .0) in
+    (omega (arith, k .search .ensures .1, start k .pre .4), omega arith)
 
 same-length-2 : tie.Need-same-length-2
 same-length-2 c = search needs
@@ -69,13 +79,14 @@ same-length-2 c = search needs
 returns-2 : tie.Need-returns-2
 unfolding writesOf
 returns-2 c =
-    let a = c .before .before .before .before .before .before .before .before .before .before .before .before .before .before .args in
-    let s = c .before .before .before .before .before .before .before .search .ensures in (
+    let k = c .before .before .before .before .before .before .before in
+    let a = start k .args in
+    let s = k .search .ensures in (
       λ f row content.
-          c .produced .ensures .0 (a .«data» .now) _ (found (c .before .before .before .before .before .before .before)) (a .made .now) (s .0) (s .1)
-          ∙ (λ i. produced (a .format) (c .before .at-record .ensures i) normal (found (c .before .before .before .before .before .before .before)) [])
-          ∙ searched-some (a .format) (a .s) (a .made .now) (found (c .before .before .before .before .before .before .before)) _ (λ z. c .before .before .before .before .if1 .left (s .1 ∙ z)) (c .before .before .wide .ensures .0 ∙ ap (λ (l : List ℕ). byte l 0) (s .0))
-          ∙ as-named (c .before .before .before .before .before .before .before) f row content,
+          c .produced .ensures .0 (a .«data» .now) _ (found k) (a .made .now) (s .0) (s .1)
+          ∙ (λ i. produced (a .format) (c .before .at-record .ensures i) normal (found k) [])
+          ∙ searched-some (a .format) (a .s) (a .made .now) (found k) _ (λ z. c .before .before .before .before .if1 .left (s .1 ∙ z)) (c .before .before .wide .ensures .0 ∙ ap (λ (l : List ℕ). byte l 0) (s .0))
+          ∙ as-named k f row content,
       c .produced .ensures .1,
     )
 
