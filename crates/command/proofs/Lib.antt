@@ -1,4 +1,5 @@
 pub mod Order
+pub mod Walked
 pub mod Outgoing
 pub mod Found
 pub mod Sums

@@ -7,15 +7,16 @@ use native.Mathlib.Omega.{arith}
 use lib.Dec.{leb, ltb}
 use lib.ListN.{length}
 use borrow.Author.Tests.{leb-true, leb-false, ltb-true}
-use Rattle.octets.proofs.Picks.{on-pick, on-test}
+use Rattle.octets.proofs.Picks.{on-test}
 use Rattle.card.specs.Row.{Card}
 use Rattle.command.specs.declared.Reading.{Reading}
 use Rattle.command.specs.Outcomes.{wordOf, goesOn}
 use Rattle.command.specs.Commands.{State, started, stepped}
-use Rattle.compact.specs.Compact.{headerSize, broken, wholeAt, headedAt, readAt, placeAfter, stepRead, stepAt, runFrom, run}
+use Rattle.compact.specs.Compact.{headerSize, broken, wholeAt, readAt, placeAfter, stepRead, stepAt, runFrom, run}
+use Rattle.compact.proofs.Readings.{on-reading}
 use Rattle.compact.proofs.Going.{nothing-left}
 
-module _ (script : List ℕ) (application domain : ℕ) (card : Card) where
+module _ (script : List ℕ) (domain : ℕ) where
   -- the place after a command is inside the script, and at its end where the command takes fewer than five bytes
   pub record Behind (at : ℕ) (r : Reading) : Type 0 where
     pub inside : placeAfter r ≤ length script
@@ -26,11 +27,8 @@ module _ (script : List ℕ) (application domain : ℕ) (card : Card) where
   at-end at = record { inside = omega arith; last = λ h. omega arith }
 
   behind : (at : ℕ) → Behind at (readAt script at)
-  unfolding readAt headedAt wholeAt placeAfter
-  behind at =
-      on-pick (Behind at) _ _ _
-      (λ y. on-pick (Behind at) _ _ _ (λ z. record { inside = leb-true _ _ z; last = λ h. absurd (omega arith) }) (λ n. at-end at))
-      (λ n. at-end at)
+  unfolding wholeAt placeAfter
+  behind at = on-reading (Behind at) script at (at-end at) (λ inside. record { inside = inside; last = λ h. absurd (omega arith) })
 
   abbrev Few : State → Type 0
   Few st = 5 * st .step .count ≤ length script + 5
@@ -41,7 +39,7 @@ module _ (script : List ℕ) (application domain : ℕ) (card : Card) where
       → (b : Bool) → leb (at + 5) (placeAfter (readAt script at)) ≡ b → Few (runFrom n script domain (placeAfter (readAt script at)) next)
   next-few n at next few before rest true e = rest _ next (behind at .inside) (omega (arith, leb-true (at + 5) (placeAfter (readAt script at)) e))
   next-few n at next few before rest false e =
-      subst Few (sym (nothing-left script application domain card n _ next (behind at .last (leb-false (at + 5) (placeAfter (readAt script at)) e)))) (omega arith)
+      subst Few (sym (nothing-left script domain _ next n (behind at .last (leb-false (at + 5) (placeAfter (readAt script at)) e)))) (omega arith)
 
   run-few : (n at : ℕ) (st : State) → at ≤ length script → 5 * st .step .count ≤ at → Few (runFrom n script domain at st)
   unfolding runFrom stepRead stepped
@@ -54,6 +52,6 @@ module _ (script : List ℕ) (application domain : ℕ) (card : Card) where
       (λ g. omega arith))
       (λ y. omega arith)
 
-  pub count-byte : length script ≤ 1024 → run script application domain card .step .count < 256
-  unfolding run started
-  count-byte short = let few = run-few (length script) 0 (started application card) (omega arith) (omega arith) in omega arith
+pub count-byte : (script : List ℕ) (application domain : ℕ) (card : Card) → length script ≤ 1024 → run script application domain card .step .count < 256
+unfolding run started
+count-byte script application domain card short = let few = run-few script domain (length script) 0 (started application card) (omega arith) (omega arith) in omega arith

@@ -4,8 +4,9 @@ use mathlib.Core.List.{List}
 use Prim.Native.Nat.{ℕ, _+_, _≤_, _<_}
 use native.Mathlib.Omega.{arith}
 use lib.ListN.{length}
+use borrow.Author.Tests.{leb-true}
 use Rattle.octets.specs.Bytes.{byte}
-use Rattle.octets.proofs.Picks.{le-yes, le-no}
+use Rattle.octets.proofs.Picks.{le-yes, le-no, on-pick}
 use Rattle.command.specs.declared.Reading.{Reading}
 use Rattle.compact.specs.Compact.{dataBehind, broken, wholeAt, headedAt, readAt, placeAfter, ReadingFits}
 
@@ -54,3 +55,10 @@ whole-fits script at i count e h few bytes =
       p3 = bytes (at + 4);
       brief = few;
     })
+
+-- what holds of a command with too few bytes, and of a whole one where it has them, holds of the one at a place
+pub on-reading : (P : Reading → Type 0) (script : List ℕ) (at : ℕ) → P (broken script)
+    → (let count = dataBehind (byte script (at + 1)) (byte script (at + 4)) in at + 5 + count ≤ length script → P (wholeAt script at (byte script (at + 1)) count))
+    → P (readAt script at)
+unfolding readAt headedAt
+on-reading P script at few all = on-pick P _ _ _ (λ y. on-pick P _ _ _ (λ z. all (leb-true _ _ z)) (λ n. few)) (λ n. few)

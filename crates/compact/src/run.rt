@@ -10,10 +10,8 @@ ghost use mathlib.Core.Path.{_≡_};
 ghost use mathlib.Core.Bool.{true};
 ghost use Prim.Native.Nat.{_≤_, _<_};
 ghost use lib.ListN.{length};
-ghost use Rattle.card.specs.Row.{lent, entries, rowOf};
-ghost use Rattle.card.specs.Tree.{isRoot};
-ghost use Rattle.journal.specs.Entries.{scriptsOnTrial};
-ghost use Rattle.journal.specs.Sound.{soundCard};
+ghost use Rattle.card.specs.Row.{lent};
+ghost use Rattle.journal.specs.Sound.{soundCard, Starts};
 ghost use Rattle.session.specs.Session.{startWaiting};
 ghost use Rattle.session.specs.Good.{Good};
 ghost use Rattle.command.specs.Commands.{stateOf};
@@ -63,7 +61,7 @@ pub fn run(
     files: &mut [u8],
     journal: &mut [u8],
 ) -> Step
-    requires { ⌜ (soundCard (lent (now table) (now files) (now journal)) ≡ true) × (1 ≤ scriptsOnTrial (now journal)) × (application < entries (now table)) × (isRoot (rowOf (now table) application) ≡ true) × (length (now script) ≤ 1024) × (now waiting ≡ startWaiting) ⌝ }
+    requires { ⌜ Starts (lent (now table) (now files) (now journal)) application × (length (now script) ≤ 1024) × (now waiting ≡ startWaiting) ⌝ }
     ensures { λ r. ⌜ stateOf r (now (waiting .exit)) (lent (now (table .exit)) (now (files .exit)) (now (journal .exit))) ≡ spec.run (now (script .entry)) application domain (lent (now (table .entry)) (now (files .entry)) (now (journal .entry))) ⌝ }
 {
     let mut step = Step {

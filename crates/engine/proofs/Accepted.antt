@@ -1,5 +1,5 @@
 -- A run that meets no number: what it finds, the mark, and what its script starts from. Assumes nothing.
-use mathlib.Core.Path.{_≡_, refl, sym, ap, subst, _∙_}
+use mathlib.Core.Path.{_≡_, refl, sym, ap, _∙_}
 use mathlib.Core.Bool.{Bool, true, false, not, _&&_}
 use mathlib.Core.List.{List}
 use Prim.Native.Nat.{ℕ, _+_, _≤_, _<_}
@@ -13,17 +13,17 @@ use Rattle.octets.proofs.Picks.{and-left, and-right}
 use Rattle.card.specs.Row.{Card, lent, entries, rowOf}
 use Rattle.card.specs.Tree.{isRoot}
 use Rattle.journal.specs.Entries.{usedBytes, scriptsOnTrial, room, entryBytes, mark}
-use Rattle.journal.specs.Sound.{mostScripts, soundCard}
+use Rattle.journal.specs.Sound.{mostScripts, soundCard, Starts}
 use Rattle.journal.specs.Changes.{withJournal, pushedAt, pushed, marked}
 use Rattle.journal.proofs.Parts.{card-parts, card-table}
 use Rattle.journal.proofs.Pushed.{marked-scripts}
 use Rattle.journal.proofs.Kept.{mark-sound}
-use Rattle.command.specs.declared.Format.{Format}
 use Rattle.command.specs.declared.Format.the-variants.{Compact, Expanded}
 use Rattle.engine.specs.Numbers.{Arguments, formatOf, argumentsFit, scriptFits, leastResponse, markFits, templateFits, firstGiven, notSound, runRefusals}
 use Rattle.engine.specs.Calls.{gives, numbered, unlessRefused, runScript, run}
-use Rattle.engine.proofs.Refusals.{arguments-root}
+use Rattle.engine.proofs.Refusals.{arguments-root, least-response}
 
+-- the first of a run's numbers, by what they test
 abbrev pub firstOf : Bool → Bool → Bool → Bool → Bool → Bool → ℕ
 firstOf s a f r m t = pick (not s) 1 (pick (not a) 2 (pick (not f) 3 (pick r 4 (pick (not m) 5 (pick (not t) 6 0)))))
 
@@ -35,11 +35,6 @@ none-given true true true true m t h = absurd (omega arith)
 none-given true true false r m t h = absurd (omega arith)
 none-given true false f r m t h = absurd (omega arith)
 none-given false a f r m t h = absurd (omega arith)
-
-long-enough : (f : Format) (n : ℕ) → ltb n (leastResponse f) ≡ false → 1024 ≤ n
-unfolding leastResponse
-long-enough Compact n h = ltb-false n 1024 h
-long-enough Expanded n h = ltb-false n 1024 h
 
 module _ (c : Card) (a : Arguments) (none : firstGiven (runRefusals c a) ≡ 0) where
   found : (soundCard c ≡ true) × (argumentsFit (c .table) a ≡ true) × (scriptFits (a .script) ≡ true) × (ltb (length (a .response)) (leastResponse (formatOf (a .format))) ≡ false) × (markFits (c .journal) ≡ true)
@@ -54,7 +49,7 @@ module _ (c : Card) (a : Arguments) (none : firstGiven (runRefusals c a) ≡ 0) 
   script-short = leb-true (length (a .script)) 1024 (and-right (leb 1 (length (a .script))) _ (found .2))
 
   pub response-long : 1024 ≤ length (a .response)
-  response-long = long-enough (formatOf (a .format)) (length (a .response)) (found .3)
+  response-long = ltb-false (length (a .response)) 1024 (rw (least-response (formatOf (a .format))) at (found .3))
 
   pub few-scripts : scriptsOnTrial (c .journal) < mostScripts
   unfolding markFits
@@ -80,48 +75,44 @@ module _ (c : Card) (a : Arguments) (none : firstGiven (runRefusals c a) ≡ 0) 
   pub marked-trial : 1 ≤ scriptsOnTrial (marked (c .journal))
   marked-trial = rw (marked-scripts (c .journal) mark-room) (omega arith)
 
--- what the code does of it: a refusal, the mark, and what both formats start from
+  pub marked-starts : Starts (withJournal c (marked (c .journal))) (a .application)
+  unfolding withJournal
+  marked-starts = record { sound = marked-sound; marked = marked-trial; inside = inside; root = root }
+
+  -- the journal that the code finds has its bytes, and room in them
+  pub journal-whole : length (c .journal) ≡ 2048
+  journal-whole = card-parts c is-sound .size
+
+  pub mark-inside : 4 + usedBytes (c .journal) + 8 ≤ length (c .journal)
+  unfolding room
+  mark-inside = omega (arith, journal-whole, mark-room)
+
+  pub scripts-byte : byte (c .journal) 2 + 1 < 256
+  unfolding scriptsOnTrial
+  scripts-byte = omega (arith, few-scripts)
+
+  -- what the script of either format starts from with the journal that has the mark, and what it comes to
+  module _ (j : List ℕ) (is : j ≡ marked (c .journal)) where
+    pub script-starts : Starts (lent (c .table) (c .files) j) (a .application) × (length (a .script) ≤ 1024) × (1024 ≤ length (a .response))
+    unfolding withJournal
+    script-starts = (rw is marked-starts, script-short, response-long)
+
+    pub accepted-run : runScript (formatOf (a .format)) a (lent (c .table) (c .files) j) ≡ run a c
+    unfolding run unlessRefused withJournal
+    accepted-run = ap (λ k. runScript (formatOf (a .format)) a (lent (c .table) (c .files) k)) is ∙ sym (rw none)
+
+-- the mark is pushed behind the used bytes, and counted
+pub is-marked : (j : List ℕ) {after : List ℕ} {u : ℕ} → u ≡ usedBytes j → after ≡ pushedAt j u (byte j 2 + 1) mark → after ≡ marked j
+unfolding marked pushed scriptsOnTrial
+is-marked j used pushes = pushes ∙ (λ i. pushedAt j (used i) (byte j 2 + 1) mark)
+
+-- a number that is not 0 refuses the run
 pub refused-run : (c : Card) (a : Arguments) (n : ℕ) → n ≡ firstGiven (runRefusals c a) → (n ≡ 0 → ⊥) → gives (numbered n) c (a .response) ≡ run a c
 unfolding run unlessRefused
 refused-run c a n e z =
     let r = runScript (formatOf (a .format)) a (withJournal c (marked (c .journal))) in
     let k : gives (numbered n) c (a .response) ≡ unlessRefused n c (a .response) r = rw (unlessRefused, ne-eqb n 0 z) in
     k ∙ ap (λ (m : ℕ). unlessRefused m c (a .response) r) e
-
-module _ (c : Card) (a : Arguments) (n : ℕ) (e : n ≡ firstGiven (runRefusals c a)) (z : n ≡ 0) where
-  none : firstGiven (runRefusals c a) ≡ 0
-  none = sym e ∙ z
-
-  pub journal-whole : length (c .journal) ≡ 2048
-  journal-whole = card-parts c (is-sound c a none) .size
-
-  pub mark-inside : 4 + usedBytes (c .journal) + 8 ≤ length (c .journal)
-  unfolding room
-  mark-inside = let w = journal-whole in let m = mark-room c a none in omega arith
-
-  pub scripts-byte : byte (c .journal) 2 + 1 < 256
-  unfolding scriptsOnTrial
-  scripts-byte = let f = few-scripts c a none in omega arith
-
-  module _ (j : List ℕ) (u s : ℕ) (used : u ≡ usedBytes (c .journal)) (scripts : s ≡ byte (c .journal) 2 + 1) (pushes : j ≡ pushedAt (c .journal) u s mark) where
-    is-marked : j ≡ marked (c .journal)
-    unfolding marked pushed scriptsOnTrial
-    is-marked = pushes ∙ (λ i. pushedAt (c .journal) (used i) (scripts i) mark)
-
-    pub script-starts : (soundCard (lent (c .table) (c .files) j) ≡ true) × (1 ≤ scriptsOnTrial j) × (a .application < entries (c .table)) × (isRoot (rowOf (c .table) (a .application)) ≡ true) × (length (a .script) ≤ 1024) × (1024 ≤ length (a .response))
-    unfolding withJournal
-    script-starts = (
-      ap (λ k. soundCard (lent (c .table) (c .files) k)) is-marked ∙ marked-sound c a none,
-      subst (λ k. 1 ≤ scriptsOnTrial k) (sym is-marked) (marked-trial c a none),
-      inside c a none,
-      root c a none,
-      script-short c a none,
-      response-long c a none,
-    )
-
-    pub accepted-run : runScript (formatOf (a .format)) a (lent (c .table) (c .files) j) ≡ run a c
-    unfolding run unlessRefused withJournal
-    accepted-run = ap (λ k. runScript (formatOf (a .format)) a (lent (c .table) (c .files) k)) is-marked ∙ sym (rw none)
 
 -- a script of either format looks at its own arguments alone
 module _ (a : Arguments) {domain : ℕ} (same : domain ≡ a .domain) where

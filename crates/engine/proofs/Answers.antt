@@ -1,8 +1,8 @@
--- What the two calls without a script give, case by case, and that their answers are small. Assumes nothing.
+-- What the two calls without a script give, case by case, and what a number alone answers. Assumes nothing.
 use Prim.Native.Nat.{ℕ, _<_}
-use mathlib.Core.Path.{_≡_, sym, subst}
+use mathlib.Core.Path.{_≡_, sym, ap, subst, _∙_}
 use mathlib.Core.Bool.{true, false}
-use mathlib.Core.List.{[]}
+use mathlib.Core.List.{List, []}
 use native.Mathlib.Omega.{arith}
 use borrow.Author.Tests.{eq-eqb, ne-eqb}
 use Rattle.octets.specs.Choice.{pick}
@@ -12,7 +12,7 @@ use Rattle.journal.specs.Sound.{soundCard}
 use Rattle.journal.specs.Changes.{takenBack, confirmed}
 use Rattle.engine.specs.declared.Answer.{Answer}
 use Rattle.engine.specs.Numbers.{firstGiven, notSound, takeBackRefusals, confirmRefusals}
-use Rattle.engine.specs.Calls.{gives, numbered, Small, unlessRefused, takeBack, confirm}
+use Rattle.engine.specs.Calls.{Result, gives, numbered, Small, unlessRefused, takeBack, confirm}
 
 module _ (c : Card) where
   pub back-unsound : soundCard c ≡ false → takeBack c ≡ gives (numbered 1) c []
@@ -35,6 +35,7 @@ module _ (c : Card) where
   unfolding confirm unlessRefused firstGiven confirmRefusals notSound pick
   confirm-done sound = rw sound
 
--- a number alone is small
-pub numbered-small : (a : Answer) (n : ℕ) → a ≡ numbered n → n < 256 → Small a
-numbered-small a n e h = subst Small (sym e) (h, omega arith, omega arith)
+-- a number alone, with what it stands for, and that it is small
+pub answers-number : (n : ℕ) → n < 256 → {a : Answer} → a ≡ numbered n → (card : Card) (response : List ℕ) {r : Result} → gives (numbered n) card response ≡ r
+    → (gives a card response ≡ r) × Small a
+answers-number n h e card response is = (ap (λ (a : Answer). gives a card response) e ∙ is, subst Small (sym e) (h, omega arith, omega arith))

@@ -28,9 +28,13 @@ pub record Same (one other : Result) : Type 0 where
   pub journal : one .card .journal ≡ other .card .journal
   pub response : one .response ≡ other .response
 
-same : (one other given : Result) → one ≡ given → other ≡ given → Same one other
-same one other given e f =
-    rw (e, f) (record { number = refl; length = refl; count = refl; table = refl; files = refl; journal = refl; response = refl })
+-- a result is the same as itself
+itself : (r : Result) → Same r r
+itself r = record { number = refl; length = refl; count = refl; table = refl; files = refl; journal = refl; response = refl }
+
+-- two results that are each equal to a third agree in every part
+pub agree : {R : Type 0} (Same : R → R → Type 0) → ((r : R) → Same r r) → {one other given : R} → one ≡ given → other ≡ given → Same one other
+agree Same itself {given = given} e f = rw (e, f) (itself given)
 
 -- `engine::run`, called with application, domain, format, script, response memory, table, files and journal
 module _ (κs : Lfts 5) (args : Dens κs run.ps) where
@@ -54,12 +58,8 @@ module _ (κs : Lfts 5) (args : Dens κs run.ps) where
       (lent (now (e .1 .1 .1 .1 .1 .0)) (now (e .1 .1 .1 .1 .1 .1 .0)) (now (e .1 .1 .1 .1 .1 .1 .1 .0)))
       (now (e .1 .1 .1 .1 .0))
 
-  -- what its contract tells a caller of an answer and the memories at exit
-  run-says : (a : Answer) (e : AtExit (endedOf 5 run.ps run.r) κs) → run-contract.Learnt κs args a e → result a e ≡ spec.run arguments card
-  run-says a e h = h .0
-
   pub run-determined : (a b : Answer) (e f : AtExit (endedOf 5 run.ps run.r) κs) → run-contract.Learnt κs args a e → run-contract.Learnt κs args b f → Same (result a e) (result b f)
-  run-determined a b e f h k = same _ _ _ (run-says a e h) (run-says b f k)
+  run-determined a b e f h k = agree Same itself {given = spec.run arguments card} (h .0) (k .0)
 
 -- `engine::take_back` and `engine::confirm`, called with table, files and journal
 module _ (κs : Lfts 3) (args : Dens κs take-back.ps) where
@@ -69,14 +69,8 @@ module _ (κs : Lfts 3) (args : Dens κs take-back.ps) where
   abbrev lent-result : Answer → AtExit (endedOf 3 take-back.ps take-back.r) κs → Result
   lent-result a e = gives a (lent (now (e .0)) (now (e .1 .0)) (now (e .1 .1 .0))) []
 
-  take-back-says : (a : Answer) (e : AtExit (endedOf 3 take-back.ps take-back.r) κs) → take-back-contract.Learnt κs args a e → lent-result a e ≡ spec.takeBack lent-card
-  take-back-says a e h = h .0
-
-  confirm-says : (a : Answer) (e : AtExit (endedOf 3 confirm.ps confirm.r) κs) → confirm-contract.Learnt κs args a e → lent-result a e ≡ spec.confirm lent-card
-  confirm-says a e h = h .0
-
   pub take-back-determined : (a b : Answer) (e f : AtExit (endedOf 3 take-back.ps take-back.r) κs) → take-back-contract.Learnt κs args a e → take-back-contract.Learnt κs args b f → Same (lent-result a e) (lent-result b f)
-  take-back-determined a b e f h k = same _ _ _ (take-back-says a e h) (take-back-says b f k)
+  take-back-determined a b e f h k = agree Same itself {given = spec.takeBack lent-card} (h .0) (k .0)
 
   pub confirm-determined : (a b : Answer) (e f : AtExit (endedOf 3 confirm.ps confirm.r) κs) → confirm-contract.Learnt κs args a e → confirm-contract.Learnt κs args b f → Same (lent-result a e) (lent-result b f)
-  confirm-determined a b e f h k = same _ _ _ (confirm-says a e h) (confirm-says b f k)
+  confirm-determined a b e f h k = agree Same itself {given = spec.confirm lent-card} (h .0) (k .0)

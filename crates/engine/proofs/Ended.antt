@@ -1,75 +1,51 @@
 -- What a script comes to at its end: its answer has room, and with it the result is the definition's. Assumes nothing.
-use mathlib.Core.Path.{_≡_, refl, sym, ap, subst, _∙_}
+use mathlib.Core.Path.{_≡_, sym, ap, subst, _∙_}
 use mathlib.Core.Bool.{Bool, true, false}
-use mathlib.Core.List.{List, [], _∷_, _++_}
+use mathlib.Core.List.{List, _++_}
 use Prim.Native.Nat.{ℕ, _+_, _≤_, _<_}
 use native.Mathlib.Omega.{arith}
-use lib.Dec.{ltb}
-use lib.ListN.{length, take, length-append}
+use lib.ListN.{length, take}
 use lib.Seq.{take-add}
-use Rattle.octets.proofs.Picks.{on-pick}
-use Rattle.octets.specs.Choice.{pick}
-use Rattle.octets.specs.Bytes.{byte, bytes2, overwrite}
+use Rattle.octets.specs.Bytes.{byte, overwrite}
 use Rattle.octets.proofs.Writes.{write-none}
-use Rattle.card.specs.Row.{Card, entries, rowOf}
-use Rattle.card.specs.Tree.{isRoot}
+use Rattle.card.specs.Row.{Card}
 use Rattle.tlv.specs.declared.template.Template.{Template}
 use Rattle.tlv.specs.declared.template.Template.the-variants.{Definite, Indefinite, Missing}
-use Rattle.tlv.specs.Lengths.{lengthBytes}
 use Rattle.tlv.specs.Templates.{templateOf, TemplateFits}
-use Rattle.tlv.proofs.Written.{length-few}
-use Rattle.journal.specs.Entries.{scriptsOnTrial}
-use Rattle.journal.specs.Sound.{soundCard}
+use Rattle.journal.specs.Sound.{Starts}
 use Rattle.journal.specs.Changes.{takenBack}
-use Rattle.journal.proofs.Parts.{card-table}
-use Rattle.session.specs.Session.{start, startWaiting}
-use Rattle.session.proofs.Good.{good-start}
 use Rattle.command.specs.declared.Format.the-variants.{Compact, Expanded}
 use Rattle.command.specs.declared.Step.{Step}
 use Rattle.command.specs.Outcomes.{dataCount, OutcomeFits}
 use Rattle.command.specs.Commands.{State, stateOf, started}
-use Rattle.command.proofs.Keeps.{Holds}
 use Rattle.command.proofs.Outgoing.{data-few}
 use Rattle.compact.specs.Compact as compact
-use Rattle.compact.proofs.Runs.{run-keeps}
+use Rattle.compact.proofs.Runs.{starts-holds, run-keeps}
 use Rattle.compact.proofs.Fits.{outcome-inside}
 use Rattle.compact.proofs.Answered.{answer-length}
 use Rattle.compact.proofs.Counts.{count-byte}
 use Rattle.expanded.specs.declared.run.Gathered.{Gathered}
 use Rattle.expanded.specs.Expanded as expanded
-use Rattle.expanded.specs.Expanded.{Progress, countBytes}
+use Rattle.expanded.specs.Expanded.{Progress}
+use Rattle.expanded.proofs.Written.{answer-few}
 use Rattle.engine.specs.Numbers.{Arguments}
-use Rattle.engine.specs.Calls.{gives, numbered, Small, accepted, runValue, runScript}
-
--- a script starts on a sound card with a mark, from an application's root
-starts : (application : ℕ) (card : Card) → soundCard card ≡ true → 1 ≤ scriptsOnTrial (card .journal) → application < entries (card .table) → isRoot (rowOf (card .table) application) ≡ true
-    → Holds (takenBack card) (start application) startWaiting card
-unfolding startWaiting
-starts application card sound trial here root =
-    record {
-      sound = sound;
-      trial = trial;
-      good = good-start (card .table) (card .files) (card-table card sound) application here root;
-      waiting = refl;
-      back = refl;
-    }
+use Rattle.engine.specs.Calls.{Result, gives, numbered, Small, accepted, runValue, runScript}
 
 -- a compact script: its answer has room
-pub compact-room : (script : List ℕ) → ((i : ℕ) → byte script i < 256) → (application domain : ℕ) (card : Card)
-    → soundCard card ≡ true → 1 ≤ scriptsOnTrial (card .journal) → application < entries (card .table) → isRoot (rowOf (card .table) application) ≡ true → length script ≤ 1024
-    → (step : Step) (waiting : List ℕ) (after : Card) → stateOf step waiting after ≡ compact.run script application domain card
-    → (response : ℕ) → 1024 ≤ response → OutcomeFits (length (after .files)) (step .outcome) × (step .count < 256) × (3 + dataCount (step .outcome) ≤ response) × (length waiting ≡ 255)
-compact-room script small application domain card sound trial here root short step waiting after e response long =
+pub compact-room : (script : List ℕ) → ((i : ℕ) → byte script i < 256) → {application : ℕ} (domain : ℕ) {card : Card} → Starts card application → length script ≤ 1024
+    → {step : Step} {waiting : List ℕ} {after : Card} → stateOf step waiting after ≡ compact.run script application domain card
+    → {response : ℕ} → 1024 ≤ response → (length waiting ≡ 255) × OutcomeFits (length (after .files)) (step .outcome) × (step .count < 256) × (3 + dataCount (step .outcome) ≤ response)
+compact-room script small {application} domain {card} starts short {step} {waiting} {after} e long =
+    let holds = starts-holds card application starts in
     let fits : OutcomeFits (length (after .files)) (step .outcome) =
-    subst (λ (st : State). OutcomeFits (length (st .card .files)) (st .step .outcome)) (sym e)
-    (outcome-inside script small (takenBack card) application domain card (starts application card sound trial here root))
+    subst (λ (st : State). OutcomeFits (length (st .card .files)) (st .step .outcome)) (sym e) (outcome-inside script small (takenBack card) application domain card holds)
     in
-    let few = data-few (step .outcome) (length (after .files)) fits in
-    let waits : length waiting ≡ 255 =
-    subst (λ (st : State). length (st .waiting) ≡ 255) (sym e)
-    (run-keeps script small (takenBack card) application domain card (starts application card sound trial here root) .waiting)
-    in
-    (fits, subst (λ (st : State). st .step .count < 256) (sym e) (count-byte script application domain card short), omega arith, waits)
+    let few = data-few (step .outcome) (length (after .files)) fits in (
+      subst (λ (st : State). length (st .waiting) ≡ 255) (sym e) (run-keeps script small (takenBack card) application domain card holds .waiting),
+      fits,
+      subst (λ (st : State). st .step .count < 256) (sym e) (count-byte script application domain card short),
+      omega arith,
+    )
 
 -- the answer is small
 pub compact-small : (step : Step) (files waiting : List ℕ) → OutcomeFits (length files) (step .outcome) → step .count < 256 → length waiting ≡ 255
@@ -89,28 +65,6 @@ compact-gives a card step waiting after response n e r l =
     ∙ ap (λ (st : State). accepted st (compact.answer (st .step) (st .card .files) (st .waiting)) (a .response)) e
 
 -- an expanded script: its answer is small
-count-few : (n : ℕ) → length (countBytes n) ≤ 2
-unfolding countBytes bytes2
-count-few n = on-pick (λ (d : List ℕ). length d ≤ 2) (ltb n 0x80) _ _ (λ y. omega arith) (λ y. omega arith)
-
-body-few : (count : ℕ) (rapdus : List ℕ) → length (expanded.definiteBody count rapdus) ≤ 6 + length rapdus
-unfolding expanded.definiteBody
-body-few count rapdus =
-    let l = length-few (length (countBytes count)) in
-    let few = count-few count in
-    let one = length-append (lengthBytes (length (countBytes count))) (countBytes count ++ rapdus) in
-    let two = length-append (countBytes count) rapdus in
-    omega arith
-
-answer-few : (definite : Bool) (count : ℕ) (rapdus : List ℕ) → length (expanded.answerBytes definite count rapdus) ≤ 10 + length rapdus
-unfolding expanded.answerBytes expanded.definiteAnswer expanded.indefiniteAnswer pick
-answer-few true count rapdus =
-    let body = body-few count rapdus in
-    let few = length-few (length (expanded.definiteBody count rapdus)) in
-    let all = length-append (lengthBytes (length (expanded.definiteBody count rapdus))) (expanded.definiteBody count rapdus) in
-    omega arith
-answer-few false count rapdus = let all = length-append rapdus (0 ∷ 0 ∷ []) in omega arith
-
 pub expanded-small : (definite : Bool) (count : ℕ) (rapdus : List ℕ) → length rapdus ≤ 1004 → count ≤ 1024
     → (n : ℕ) → n ≡ length (expanded.answerBytes definite count rapdus) → Small (record { number = 0; length = n; count = count })
 expanded-small definite count rapdus few most n e = let a = answer-few definite count rapdus in (omega arith, omega arith, omega arith)
@@ -133,16 +87,21 @@ known-lies same script = subst (TemplateFits script) same
 
 -- the value of a template of either form, and no template
 module _ (a : Arguments) (card : Card) where
+  abbrev withTemplate : Template → Result
+  withTemplate t =
+      let p : Progress = expanded.run t (a .script) (a .application) (a .domain) card in
+      accepted (p .state) (expanded.answer t p) (a .response)
+
   pub definite-script : (at end : ℕ) → templateOf (a .script) ≡ Definite at end → runValue true at end a card ≡ runScript Expanded a card
   unfolding runValue runScript expanded.run expanded.answer
-  definite-script at end e = ap (λ (t : Template). accepted (expanded.run t (a .script) (a .application) (a .domain) card .state) (expanded.answer t (expanded.run t (a .script) (a .application) (a .domain) card)) (a .response)) (sym e)
+  definite-script at end e = ap withTemplate (sym e)
 
   pub indefinite-script : (at end : ℕ) → templateOf (a .script) ≡ Indefinite at end → runValue false at end a card ≡ runScript Expanded a card
   unfolding runValue runScript expanded.run expanded.answer
-  indefinite-script at end e = ap (λ (t : Template). accepted (expanded.run t (a .script) (a .application) (a .domain) card .state) (expanded.answer t (expanded.run t (a .script) (a .application) (a .domain) card)) (a .response)) (sym e)
+  indefinite-script at end e = ap withTemplate (sym e)
 
   pub no-template : templateOf (a .script) ≡ Missing → gives (numbered 0) card (a .response) ≡ runScript Expanded a card
   unfolding runScript accepted expanded.run expanded.answer expanded.begun started
   no-template e =
       ap (λ (m : List ℕ). gives (numbered 0) card m) (sym (write-none (a .response) 0))
-      ∙ ap (λ (t : Template). accepted (expanded.run t (a .script) (a .application) (a .domain) card .state) (expanded.answer t (expanded.run t (a .script) (a .application) (a .domain) card)) (a .response)) (sym e)
+      ∙ ap withTemplate (sym e)

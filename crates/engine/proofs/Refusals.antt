@@ -1,4 +1,4 @@
--- The numbers of a run, case by case: each is the first whose condition holds; and what holds where none does. Assumes nothing.
+-- The numbers of a run, case by case: each is the first whose condition holds, and 0 where none does. Assumes nothing.
 use mathlib.Core.Path.{_≡_, refl}
 use mathlib.Core.Bool.{Bool, true, false, not, _&&_, _||_}
 use mathlib.Core.List.{List}
@@ -45,20 +45,16 @@ unfolding templateFits formatOf pick
 expanded-fits format script z e = rw (ne-eqb format 0 z, e)
 
 -- the response memory of either format
-response-short : (f : Format) (n : ℕ) → n < 1024 → ltb n (leastResponse f) ≡ true
+pub least-response : (f : Format) → leastResponse f ≡ 1024
 unfolding leastResponse
-response-short Compact n h = lt-ltb n 1024 h
-response-short Expanded n h = lt-ltb n 1024 h
+least-response Compact = refl
+least-response Expanded = refl
 
-response-long : (f : Format) (n : ℕ) → 1024 ≤ n → ltb n (leastResponse f) ≡ false
-unfolding leastResponse
-response-long Compact n h = le-ltb n 1024 h
-response-long Expanded n h = le-ltb n 1024 h
-
+-- a run meets a number where the tests before it pass and its own does not
 module _ (c : Card) (a : Arguments) where
   pub meets-1 : soundCard c ≡ false → 1 ≡ firstGiven (runRefusals c a)
   unfolding runRefusals notSound firstGiven pick
-  meets-1 no-1 = rw no-1
+  meets-1 h = rw h
 
   module _ (sound : soundCard c ≡ true) where
     pub meets-2 : argumentsFit (c .table) a ≡ false → 2 ≡ firstGiven (runRefusals c a)
@@ -73,18 +69,18 @@ module _ (c : Card) (a : Arguments) where
       module _ (script : scriptFits (a .script) ≡ true) where
         pub meets-4 : length (a .response) < 1024 → 4 ≡ firstGiven (runRefusals c a)
         unfolding runRefusals notSound firstGiven pick
-        meets-4 h = rw (sound, arguments, script, response-short (formatOf (a .format)) (length (a .response)) h)
+        meets-4 h = rw (sound, arguments, script, least-response (formatOf (a .format)), lt-ltb (length (a .response)) 1024 h)
 
         module _ (response : 1024 ≤ length (a .response)) where
           pub meets-5 : markFits (c .journal) ≡ false → 5 ≡ firstGiven (runRefusals c a)
           unfolding runRefusals notSound firstGiven pick
-          meets-5 h = rw (sound, arguments, script, response-long (formatOf (a .format)) (length (a .response)) response, h)
+          meets-5 h = rw (sound, arguments, script, least-response (formatOf (a .format)), le-ltb (length (a .response)) 1024 response, h)
 
           module _ (mark : markFits (c .journal) ≡ true) where
             pub meets-6 : templateFits (formatOf (a .format)) (a .script) ≡ false → 6 ≡ firstGiven (runRefusals c a)
             unfolding runRefusals notSound firstGiven pick
-            meets-6 h = rw (sound, arguments, script, response-long (formatOf (a .format)) (length (a .response)) response, mark, h)
+            meets-6 h = rw (sound, arguments, script, least-response (formatOf (a .format)), le-ltb (length (a .response)) 1024 response, mark, h)
 
             pub meets-none : templateFits (formatOf (a .format)) (a .script) ≡ true → 0 ≡ firstGiven (runRefusals c a)
             unfolding runRefusals notSound firstGiven pick
-            meets-none h = rw (sound, arguments, script, response-long (formatOf (a .format)) (length (a .response)) response, mark, h)
+            meets-none h = rw (sound, arguments, script, least-response (formatOf (a .format)), le-ltb (length (a .response)) 1024 response, mark, h)

@@ -6,13 +6,10 @@ use expanded::run::ROOM_TO_GATHER;
 use tlv::template::Template;
 use tlv::template::template_of;
 ghost use mathlib.Core.Path.{_≡_};
-ghost use mathlib.Core.Bool.{true};
-ghost use Prim.Native.Nat.{_≤_, _<_};
+ghost use Prim.Native.Nat.{_≤_};
 ghost use lib.ListN.{length};
-ghost use Rattle.card.specs.Row.{lent, entries, rowOf};
-ghost use Rattle.card.specs.Tree.{isRoot};
-ghost use Rattle.journal.specs.Entries.{scriptsOnTrial};
-ghost use Rattle.journal.specs.Sound.{soundCard};
+ghost use Rattle.card.specs.Row.{lent};
+ghost use Rattle.journal.specs.Sound.{Starts};
 ghost use Rattle.command.specs.declared.Format.the-variants as formats;
 ghost use Rattle.engine.specs.Calls as spec;
 
@@ -26,7 +23,7 @@ pub fn run_compact(
     files: &mut [u8],
     journal: &mut [u8],
 ) -> Answer
-    requires { ⌜ (soundCard (lent (now table) (now files) (now journal)) ≡ true) × (1 ≤ scriptsOnTrial (now journal)) × (application < entries (now table)) × (isRoot (rowOf (now table) application) ≡ true) × (length (now script) ≤ 1024) × (1024 ≤ length (now response)) ⌝ }
+    requires { ⌜ Starts (lent (now table) (now files) (now journal)) application × (length (now script) ≤ 1024) × (1024 ≤ length (now response)) ⌝ }
     ensures { λ a. ⌜ (spec.gives a (lent (now (table .exit)) (now (files .exit)) (now (journal .exit))) (now (response .exit))
         ≡ spec.runScript formats.Compact (record { application = application; domain = domain; format = 0; script = now (script .entry); response = now (response .entry) })
         (lent (now (table .entry)) (now (files .entry)) (now (journal .entry)))) × spec.Small a ⌝ }
@@ -62,7 +59,7 @@ fn run_value(
     files: &mut [u8],
     journal: &mut [u8],
 ) -> Answer
-    requires { ⌜ (at ≤ end) × (end ≤ length (now script)) × (soundCard (lent (now table) (now files) (now journal)) ≡ true) × (1 ≤ scriptsOnTrial (now journal)) × (application < entries (now table)) × (isRoot (rowOf (now table) application) ≡ true) × (length (now script) ≤ 1024) × (1024 ≤ length (now response)) ⌝ }
+    requires { ⌜ (at ≤ end) × (end ≤ length (now script)) × Starts (lent (now table) (now files) (now journal)) application × (length (now script) ≤ 1024) × (1024 ≤ length (now response)) ⌝ }
     ensures { λ a. ⌜ (spec.gives a (lent (now (table .exit)) (now (files .exit)) (now (journal .exit))) (now (response .exit))
         ≡ spec.runValue definite at end (record { application = application; domain = domain; format = 1; script = now (script .entry); response = now (response .entry) })
         (lent (now (table .entry)) (now (files .entry)) (now (journal .entry)))) × spec.Small a ⌝ }
@@ -102,7 +99,7 @@ pub fn run_expanded(
     files: &mut [u8],
     journal: &mut [u8],
 ) -> Answer
-    requires { ⌜ (soundCard (lent (now table) (now files) (now journal)) ≡ true) × (1 ≤ scriptsOnTrial (now journal)) × (application < entries (now table)) × (isRoot (rowOf (now table) application) ≡ true) × (length (now script) ≤ 1024) × (1024 ≤ length (now response)) ⌝ }
+    requires { ⌜ Starts (lent (now table) (now files) (now journal)) application × (length (now script) ≤ 1024) × (1024 ≤ length (now response)) ⌝ }
     ensures { λ a. ⌜ (spec.gives a (lent (now (table .exit)) (now (files .exit)) (now (journal .exit))) (now (response .exit))
         ≡ spec.runScript formats.Expanded (record { application = application; domain = domain; format = 1; script = now (script .entry); response = now (response .entry) })
         (lent (now (table .entry)) (now (files .entry)) (now (journal .entry)))) × spec.Small a ⌝ }

@@ -28,6 +28,11 @@ case-sized capdu =
 pub case-told : (capdu : List ℕ) {n : ℕ} → n ≡ caseBySize capdu → (n ≡ caseBySize capdu) × (3 ≤ n → 5 + byte capdu 4 ≤ length capdu)
 case-told capdu e = (e, λ h. case-sized capdu (rw e at h))
 
+-- the data that it carries are less than 256 bytes
+pub carried-few : (capdu : List ℕ) → byte capdu 4 < 256 → carried capdu < 256
+unfolding carried
+carried-few capdu small = on-pick (λ (n : ℕ). n < 256) (leb 3 (caseBySize capdu)) (byte capdu 4) 0 (λ e. small) (λ e. omega arith)
+
 -- a command whose form is whole where it has a case, and what is promised of it
 abbrev pub read : ℕ → ℕ → ℕ → ℕ → ℕ → ℕ → ℕ → ℕ → Reading
 read n a b p q r from count =
@@ -64,7 +69,7 @@ module _ (capdu : List ℕ) (bytes : (k : ℕ) → byte capdu k < 256) (least : 
         p1 = bytes 2;
         p2 = bytes 3;
         p3 = bytes 4;
-        brief = on-pick (λ (n : ℕ). n < 256) (leb 3 (caseBySize capdu)) (byte capdu 4) 0 (λ e. bytes 4) (λ e. omega arith);
+        brief = carried-few capdu (bytes 4);
       }
 
   pub command-told : {n a b p q r from count : ℕ} → n ≡ caseBySize capdu → a ≡ byte capdu 0 → b ≡ byte capdu 1 → p ≡ byte capdu 2 → q ≡ byte capdu 3 → r ≡ byte capdu 4 → from ≡ pick (leb 3 n) 5 4 → count ≡ pick (leb 3 n) (byte capdu 4) 0 → Told capdu (read n a b p q r from count)

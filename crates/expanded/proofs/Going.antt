@@ -7,13 +7,11 @@ use native.Mathlib.Omega.{arith}
 use lib.ListN.{length}
 use Rattle.octets.proofs.Picks.{on-pick}
 use Rattle.octets.specs.Bytes.{byte, part}
-use Rattle.card.specs.Row.{Card, entries, rowOf}
-use Rattle.card.specs.Tree.{isRoot}
+use Rattle.card.specs.Row.{Card}
 use Rattle.tlv.specs.declared.template.Item.{Item}
 use Rattle.tlv.specs.declared.template.Item.the-variants.{Capdu, Bad, End}
 use Rattle.tlv.specs.Templates.{leastCapdu, itemAt, ItemFits}
-use Rattle.journal.specs.Entries.{scriptsOnTrial}
-use Rattle.journal.specs.Sound.{soundCard}
+use Rattle.journal.specs.Sound.{Starts}
 use Rattle.journal.specs.Changes.{takenBack}
 use Rattle.journal.proofs.Parts.{card-table}
 use Rattle.session.specs.Session.{startWaiting}
@@ -28,79 +26,79 @@ use Rattle.expanded.specs.Expanded.{roomToGather, Progress, progressOf, 
 use Rattle.expanded.proofs.Runs.{script-capdu-holds}
 
 -- an item that is known lies in the value
-module _ (at end : ℕ) {item : Item} where
-  pub capdu-lies : (from size : ℕ) → ItemFits at end item → item ≡ Capdu from size → (at < from) × (from + size ≤ end) × (leastCapdu ≤ size)
+module _ {at end : ℕ} {item : Item} where
+  pub capdu-lies : {from size : ℕ} → ItemFits at end item → item ≡ Capdu from size → (at < from) × (from + size ≤ end) × (leastCapdu ≤ size)
   unfolding ItemFits
-  capdu-lies from size fits known = subst (ItemFits at end) known fits
+  capdu-lies fits known = subst (ItemFits at end) known fits
 
-  pub bad-lies : (code : ℕ) → ItemFits at end item → item ≡ Bad code → (at < end) × (code < 256)
+  pub bad-lies : {code : ℕ} → ItemFits at end item → item ≡ Bad code → (at < end) × (code < 256)
   unfolding ItemFits
-  bad-lies code fits known = subst (ItemFits at end) known fits
+  bad-lies fits known = subst (ItemFits at end) known fits
 
 -- one command more
 counts-one : (definite : Bool) (domain : ℕ) (capdu : List ℕ) (p : Progress) → stepCapdu definite domain capdu p .state .step .count ≡ p .state .step .count + 1
 unfolding stepCapdu answered stepped
 counts-one definite domain capdu p = on-pick (λ (q : Progress). q .state .step .count ≡ p .state .step .count + 1) _ _ _ (λ y. refl) (λ n. refl)
 
-module _ (script : List ℕ) (definite : Bool) (from end application domain : ℕ) (card₀ : Card) where
-  -- the place, the number of commands, the bytes kept, what holds of session, waiting bytes and card, and what is left to run, with a count that is large enough
-  pub record Going (waiting : List ℕ) (card : Card) (out : List ℕ) (g : Gathered) (at : ℕ) : Type 0 where
-    pub inside : at ≤ end
-    pub counted : g .step .count ≤ at
-    pub kept : g .kept ≤ mostKept
-    pub room : g .kept + g .last ≤ roomToGather
-    pub holds : Holds (takenBack card₀) (g .step .session) waiting card
-    pub fuel : ℕ
-    pub enough : end ≤ at + fuel
-    pub whole : runFrom fuel script domain definite at end (progressOf g waiting card out) ≡ runFrom (length script) script domain definite from end (begun application card₀)
+-- the place, the number of commands, the bytes kept, what holds of session, waiting bytes and card, and what is left to run, with a count that is large enough
+pub record Going (script : List ℕ) (definite : Bool) (from end application domain : ℕ) (card₀ : Card) (waiting : List ℕ) (card : Card) (out : List ℕ) (g : Gathered) (at : ℕ) : Type 0 where
+  pub inside : at ≤ end
+  pub counted : g .step .count ≤ at
+  pub kept : g .kept ≤ mostKept
+  pub room : g .kept + g .last ≤ roomToGather
+  pub holds : Holds (takenBack card₀) (g .step .session) waiting card
+  pub fuel : ℕ
+  pub enough : end ≤ at + fuel
+  pub whole : runFrom fuel script domain definite at end (progressOf g waiting card out) ≡ runFrom (length script) script domain definite from end (begun application card₀)
 
-  -- the items from a place on, by the first of them
-  module _ (at : ℕ) (p : Progress) where
-    end-left : (n : ℕ) → itemAt script at end ≡ End → runFrom n script domain definite at end p ≡ p
+-- the items from a place on, by the first of them
+module _ (script : List ℕ) (definite : Bool) (end domain at : ℕ) (p : Progress) where
+  end-left : (n : ℕ) → itemAt script at end ≡ End → runFrom n script domain definite at end p ≡ p
+  unfolding runFrom
+  end-left zero e = refl
+  end-left (suc n) e = rw (runFrom, e)
+
+  bad-left : (n code : ℕ) → at < end → end ≤ at + n → itemAt script at end ≡ Bad code → runFrom n script domain definite at end p ≡ stepBad code p
+  unfolding runFrom
+  bad-left zero code h l e = absurd (omega arith)
+  bad-left (suc n) code h l e = rw (runFrom, e)
+
+  module _ (start size : ℕ) (further : at < start) (inside : start + size ≤ end) (e : itemAt script at end ≡ Capdu start size) where
+    abbrev next : Progress
+    next = stepCapdu definite domain (part script start size) p
+
+    stop-left : (n : ℕ) → end ≤ at + n → goesOn (wordOf (next .state .step .outcome)) ≡ false → runFrom n script domain definite at end p ≡ next
     unfolding runFrom
-    end-left zero e = refl
-    end-left (suc n) e = rw (runFrom, e)
+    stop-left zero l g = absurd (omega arith)
+    stop-left (suc n) l g = rw (runFrom, e, g)
 
-    bad-left : (n code : ℕ) → at < end → end ≤ at + n → itemAt script at end ≡ Bad code → runFrom n script domain definite at end p ≡ stepBad code p
+    on-left : (n : ℕ) → end ≤ at + n → goesOn (wordOf (next .state .step .outcome)) ≡ true
+        → (m : ℕ) × (end ≤ start + size + m) × (runFrom m script domain definite (start + size) end next ≡ runFrom n script domain definite at end p)
     unfolding runFrom
-    bad-left zero code h l e = absurd (omega arith)
-    bad-left (suc n) code h l e = rw (runFrom, e)
+    on-left zero l g = absurd (omega arith)
+    on-left (suc n) l g = (n, omega arith, rw (runFrom, e, g))
 
-    module _ (start size : ℕ) (further : at < start) (inside : start + size ≤ end) (e : itemAt script at end ≡ Capdu start size) where
-      abbrev next : Progress
-      next = stepCapdu definite domain (part script start size) p
+-- a script that is done
+abbrev pub Done : List ℕ → Bool → ℕ → ℕ → ℕ → ℕ → Card → List ℕ → Card → List ℕ → Gathered → Type 0
+Done script definite from end application domain card₀ waiting card out r =
+    (progressOf r waiting card out ≡ runFrom (length script) script domain definite from end (begun application card₀))
+    × (r .kept + r .last ≤ roomToGather)
+    × (r .step .count ≤ end)
 
-      stop-left : (n : ℕ) → end ≤ at + n → goesOn (wordOf (next .state .step .outcome)) ≡ false → runFrom n script domain definite at end p ≡ next
-      unfolding runFrom
-      stop-left zero l g = absurd (omega arith)
-      stop-left (suc n) l g = rw (runFrom, e, g)
-
-      on-left : (n : ℕ) → end ≤ at + n → goesOn (wordOf (next .state .step .outcome)) ≡ true
-          → (m : ℕ) × (end ≤ start + size + m) × (runFrom m script domain definite (start + size) end next ≡ runFrom n script domain definite at end p)
-      unfolding runFrom
-      on-left zero l g = absurd (omega arith)
-      on-left (suc n) l g = (n, omega arith, rw (runFrom, e, g))
-
-  -- a script that is done
-  abbrev pub Done : List ℕ → Card → List ℕ → Gathered → Type 0
-  Done waiting card out r =
-      (progressOf r waiting card out ≡ runFrom (length script) script domain definite from end (begun application card₀))
-      × (r .kept + r .last ≤ roomToGather)
-      × (r .step .count ≤ end)
-
-  pub begins : from ≤ end → end ≤ length script → soundCard card₀ ≡ true → 1 ≤ scriptsOnTrial (card₀ .journal) → application < entries (card₀ .table) → isRoot (rowOf (card₀ .table) application) ≡ true
-      → (out : List ℕ) (step : Step) → step ≡ started application card₀ .step → Going startWaiting card₀ out (record { step = step; kept = 0; last = 0 }) from
+module _ {script : List ℕ} {definite : Bool} {from end application domain : ℕ} {card₀ : Card} where
+  pub begins : from ≤ end → end ≤ length script → Starts card₀ application → {out : List ℕ} {step : Step} → step ≡ started application card₀ .step
+      → Going script definite from end application domain card₀ startWaiting card₀ out (record { step = step; kept = 0; last = 0 }) from
   unfolding started begun progressOf startWaiting
-  begins inside short sound trial here root out step is =
+  begins inside short starts is =
       record {
         inside = inside;
         counted = rw is (omega arith);
         kept = omega arith;
         room = omega arith;
         holds = record {
-          sound = sound;
-          trial = trial;
-          good = rw is (good-start (card₀ .table) (card₀ .files) (card-table card₀ sound) application here root);
+          sound = starts .sound;
+          trial = starts .marked;
+          good = rw is (good-start (card₀ .table) (card₀ .files) (card-table card₀ (starts .sound)) application (starts .inside) (starts .root));
           waiting = refl;
           back = refl;
         };
@@ -110,23 +108,26 @@ module _ (script : List ℕ) (definite : Bool) (from end application domain : �
       }
 
   -- the item at a place of a script that is going
-  module _ (waiting : List ℕ) (card : Card) (out : List ℕ) (g : Gathered) (at : ℕ) (going : Going waiting card out g at) (item : Item) (is : item ≡ itemAt script at end) (fits : ItemFits at end item) where
-    pub ends : item ≡ End → Done waiting card out g
+  module _ {waiting : List ℕ} {card : Card} {out : List ℕ} {g : Gathered} {at : ℕ} (going : Going script definite from end application domain card₀ waiting card out g at) {item : Item} (is : item ≡ itemAt script at end) (fits : ItemFits at end item) where
+    pub ends : item ≡ End → Done script definite from end application domain card₀ waiting card out g
     ends known =
         let c = going .counted in
         let i = going .inside in
-        (sym (end-left at (progressOf g waiting card out) (going .fuel) (sym is ∙ known)) ∙ going .whole, going .room, omega arith)
+        (sym (end-left script definite end domain at (progressOf g waiting card out) (going .fuel) (sym is ∙ known)) ∙ going .whole, going .room, omega arith)
 
     module _ (next : Gathered) (bytes : List ℕ) (card′ : Card) (out′ : List ℕ) (room : next .kept + next .last ≤ roomToGather) where
-      pub breaks : (code : ℕ) → item ≡ Bad code → progressOf next bytes card′ out′ ≡ stepBad code (progressOf g waiting card out) → Done bytes card′ out′ next
+      pub breaks : {code : ℕ} → item ≡ Bad code → progressOf next bytes card′ out′ ≡ stepBad code (progressOf g waiting card out) → Done script definite from end application domain card₀ bytes card′ out′ next
       unfolding stepBad progressOf
-      breaks code known e =
-          let f = bad-lies at end code fits known in
+      breaks {code} known e =
+          let f = bad-lies fits known in
           let c = going .counted in
           let n : next .step .count ≡ g .step .count + 1 = ap (λ (p : Progress). p .state .step .count) e in
-          (e ∙ sym (bad-left at (progressOf g waiting card out) (going .fuel) code (f .0) (going .enough) (sym is ∙ known)) ∙ going .whole, room, omega arith)
+          (e ∙ sym (bad-left script definite end domain at (progressOf g waiting card out) (going .fuel) code (f .0) (going .enough) (sym is ∙ known)) ∙ going .whole, room, omega arith)
 
-      module _ (start size : ℕ) (known : item ≡ Capdu start size) (e : progressOf next bytes card′ out′ ≡ stepCapdu definite domain (part script start size) (progressOf g waiting card out)) where
+      module _ {start size : ℕ} (known : item ≡ Capdu start size) (capdu : List ℕ) (lies : capdu ≡ part script start size) (did : progressOf next bytes card′ out′ ≡ stepCapdu definite domain capdu (progressOf g waiting card out)) where
+        e : progressOf next bytes card′ out′ ≡ stepCapdu definite domain (part script start size) (progressOf g waiting card out)
+        e = did ∙ ap (λ (x : List ℕ). stepCapdu definite domain x (progressOf g waiting card out)) lies
+
         one-more : next .step .count ≡ g .step .count + 1
         unfolding progressOf
         one-more = ap (λ (p : Progress). p .state .step .count) e ∙ counts-one definite domain (part script start size) (progressOf g waiting card out)
@@ -135,20 +136,20 @@ module _ (script : List ℕ) (definite : Bool) (from end application domain : �
         unfolding progressOf
         same-end h = ap (λ (p : Progress). goesOn (wordOf (p .state .step .outcome))) (sym e) ∙ h
 
-        pub stops : goesOn (wordOf (next .step .outcome)) ≡ false → Done bytes card′ out′ next
+        pub stops : goesOn (wordOf (next .step .outcome)) ≡ false → Done script definite from end application domain card₀ bytes card′ out′ next
         stops off =
             let c = going .counted in
             let n = one-more in
-            let l = capdu-lies at end start size fits known in
-            (e ∙ sym (stop-left at (progressOf g waiting card out) start size (l .0) (l .1) (sym is ∙ known) (going .fuel) (going .enough) (same-end off)) ∙ going .whole, room, omega arith)
+            let l = capdu-lies fits known in
+            (e ∙ sym (stop-left script definite end domain at (progressOf g waiting card out) start size (l .0) (l .1) (sym is ∙ known) (going .fuel) (going .enough) (same-end off)) ∙ going .whole, room, omega arith)
 
-        pub goes : ((i : ℕ) → byte script i < 256) → next .kept ≤ mostKept → goesOn (wordOf (next .step .outcome)) ≡ true → Going bytes card′ out′ next (start + size)
+        pub goes : ((i : ℕ) → byte script i < 256) → next .kept ≤ mostKept → goesOn (wordOf (next .step .outcome)) ≡ true → Going script definite from end application domain card₀ bytes card′ out′ next (start + size)
         unfolding progressOf
         goes small few on =
             let c = going .counted in
             let n = one-more in
-            let l = capdu-lies at end start size fits known in
-            let k = on-left at (progressOf g waiting card out) start size (l .0) (l .1) (sym is ∙ known) (going .fuel) (going .enough) (same-end on) in
+            let l = capdu-lies fits known in
+            let k = on-left script definite end domain at (progressOf g waiting card out) start size (l .0) (l .1) (sym is ∙ known) (going .fuel) (going .enough) (same-end on) in
             record {
               inside = l .1;
               counted = omega arith;

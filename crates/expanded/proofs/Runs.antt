@@ -22,8 +22,9 @@ use Rattle.command.proofs.Keeps.{Holds, Carries, command-holds, failed-holds}
 use Rattle.step.specs.Limits.{limited}
 use Rattle.expanded.specs.Capdu.{carried, capduCommand}
 use Rattle.expanded.specs.Expanded.{Progress, answered, stepCapdu, stepBad, runFrom, begun, run}
+use Rattle.expanded.proofs.Fits.{carried-few}
 
--- a C-APDU of bytes carries at most 255 of them
+-- a part of a script of bytes is of bytes
 module _ (script : List ℕ) (small : (i : ℕ) → byte script i < 256) where
   part-small : (p n i : ℕ) → byte (part script p n) i < 256
   part-small p n i =
@@ -32,12 +33,9 @@ module _ (script : List ℕ) (small : (i : ℕ) → byte script i < 256) where
         | no g ↦ rw (List·getD-eq-default (part script p n) 0 {n = i} (rw length-take (omega arith))) (omega arith)
       ]
 
-few : (capdu : List ℕ) → byte capdu 4 < 256 → carried capdu ≤ 255
-unfolding carried
-few capdu b = on-pick (λ (n : ℕ). n ≤ 255) _ (byte capdu 4) 0 (λ y. omega arith) (λ n. omega arith)
-
+-- a C-APDU of bytes carries at most 255 of them
 brief : (capdu : List ℕ) (from : ℕ) → byte capdu 4 < 256 → length (part capdu from (carried capdu)) ≤ 255
-brief capdu from b = rw length-take (omega (arith, few capdu b))
+brief capdu from b = rw length-take (omega (arith, carried-few capdu b))
 
 -- a step
 module _ (before : Card) where

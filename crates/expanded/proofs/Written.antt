@@ -1,16 +1,19 @@
--- The bytes of a count by its size, one written run of bytes behind another, and an R-APDU and the answers in their writes. Assumes nothing.
+-- The bytes of a count by its size, one written run of bytes behind another, an R-APDU and the answers in their writes, and how long an answer can be. Assumes nothing.
 use mathlib.Core.Path.{_≡_, refl, sym, ap, _∙_}
+use mathlib.Core.Bool.{Bool, true, false}
 use mathlib.Core.List.{List, [], _∷_, _++_, append-assoc}
 use Prim.Native.Nat.{ℕ, _+_, _≤_, _<_}
 use native.Mathlib.Omega.{arith}
+use lib.Dec.{ltb}
 use lib.ListN.{length, length-append}
+use Rattle.octets.specs.Choice.{pick}
 use Rattle.octets.specs.Bytes.{bytes2, overwrite}
-use Rattle.octets.proofs.Picks.{lt-yes, lt-no}
+use Rattle.octets.proofs.Picks.{lt-yes, lt-no, on-pick}
 use Rattle.octets.proofs.Writes.{write-two}
 use Rattle.tlv.specs.Lengths.{lengthBytes}
 use Rattle.tlv.proofs.Written.{length-one, length-few}
 use Rattle.step.specs.Limits.{rapduSize}
-use Rattle.expanded.specs.Expanded.{rapdu, countBytes, definiteBody, definiteAnswer, indefiniteAnswer}
+use Rattle.expanded.specs.Expanded.{rapdu, countBytes, definiteBody, definiteAnswer, indefiniteAnswer, answerBytes}
 
 -- the bytes of a count, by its size
 module _ (n : ℕ) where
@@ -21,6 +24,10 @@ module _ (n : ℕ) where
   pub count-two : 0x80 ≤ n → bytes2 n ≡ countBytes n
   unfolding countBytes
   count-two h = lt-no n 0x80 _ h refl
+
+  pub count-few : length (countBytes n) ≤ 2
+  unfolding countBytes bytes2
+  count-few = on-pick (λ (d : List ℕ). length d ≤ 2) (ltb n 0x80) _ _ (λ y. omega arith) (λ y. omega arith)
 
 -- one written run behind another
 module _ (m : List ℕ) (p : ℕ) where
@@ -43,33 +50,33 @@ module _ (m : List ℕ) (p : ℕ) (d : List ℕ) (word : ℕ) {n : ℕ} (size : 
       ((rw append-assoc at e4) ∙ ap (λ (k : ℕ). overwrite m p (0x23 ∷ (lengthBytes (k + 2) ++ (d ++ bytes2 word)))) size, omega arith)
 
 -- the answer to AA: tag, length, tag and length of the count, count, and R-APDUs
-body-length : (count : ℕ) (rapdus : List ℕ) {size : ℕ} → size ≡ length (countBytes count) → size ≤ 2 → length (definiteBody count rapdus) ≡ 2 + (size + length rapdus)
-unfolding definiteBody
-body-length count rapdus {size} e few = rw (← (length-one (length (countBytes count)) (omega arith)), length-append) (omega arith)
+module _ (count : ℕ) (rapdus : List ℕ) {size : ℕ} (sized : size ≡ length (countBytes count)) where
+  body-length : length (definiteBody count rapdus) ≡ 2 + (size + length rapdus)
+  unfolding definiteBody
+  body-length = rw (← (length-one (length (countBytes count)) (omega (arith, count-few count))), length-append) (omega arith)
 
-answer-length : (count : ℕ) (rapdus : List ℕ) {size : ℕ} → size ≡ length (countBytes count) → size ≤ 2 → length (definiteAnswer count rapdus) ≡ 1 + (length (lengthBytes (2 + (size + length rapdus))) + (2 + (size + length rapdus)))
-unfolding definiteAnswer
-answer-length count rapdus {size} e few =
-    let b = body-length count rapdus e few in
-    rw b (omega (arith, b, length-append (lengthBytes (2 + (size + length rapdus))) (definiteBody count rapdus)))
+  answer-length : length (definiteAnswer count rapdus) ≡ 1 + (length (lengthBytes (2 + (size + length rapdus))) + (2 + (size + length rapdus)))
+  unfolding definiteAnswer
+  answer-length = rw body-length (omega (arith, body-length, length-append (lengthBytes (2 + (size + length rapdus))) (definiteBody count rapdus)))
 
-module _ (m : List ℕ) (count : ℕ) (rapdus : List ℕ) (room : 1024 ≤ length m) (few : length rapdus ≤ 1004) {size : ℕ} (sized : size ≡ length (countBytes count)) (small : size ≤ 2) {w1 w2 w3 w4 w5 : List ℕ} {at from : ℕ} where
+module _ (m : List ℕ) (count : ℕ) (rapdus : List ℕ) (room : 1024 ≤ length m) (few : length rapdus ≤ 1004) {size : ℕ} (sized : size ≡ length (countBytes count)) {w1 w2 w3 w4 w5 : List ℕ} {at from : ℕ} where
   pub definite-written : w1 ≡ overwrite m 0 (0xAB ∷ []) → w2 ≡ overwrite w1 1 (lengthBytes (2 + (size + length rapdus))) → at ≡ 1 + length (lengthBytes (2 + (size + length rapdus))) → w3 ≡ overwrite w2 at (0x80 ∷ size ∷ []) → w4 ≡ overwrite w3 (at + 2) (countBytes count) → from ≡ at + 2 + length (countBytes count) → w5 ≡ overwrite w4 from rapdus → (w5 ≡ overwrite m 0 (definiteAnswer count rapdus)) × (from + length rapdus ≡ length (definiteAnswer count rapdus))
   unfolding definiteAnswer definiteBody
   definite-written h1 h2 a h3 h4 f h5 =
       let n : List ℕ = countBytes count in
       let l : List ℕ = lengthBytes (2 + (size + length rapdus)) in
-      let s : 0x80 ∷ size ∷ [] ≡ 0x80 ∷ lengthBytes (length n) = ap (λ (k : ℕ). 0x80 ∷ k ∷ []) sized ∙ ap (λ (d : List ℕ). 0x80 ∷ d) (length-one (length n) (omega arith)) in
+      let s : 0x80 ∷ size ∷ [] ≡ 0x80 ∷ lengthBytes (length n) = ap (λ (k : ℕ). 0x80 ∷ k ∷ []) sized ∙ ap (λ (d : List ℕ). 0x80 ∷ d) (length-one (length n) (omega (arith, count-few count))) in
       let k : List ℕ = 0x80 ∷ lengthBytes (length n) in
       let kl : length k ≡ 2 = sym (ap length s) in
       let ll = length-few (2 + (size + length rapdus)) in
+      let nl = count-few count in
       let l3 = length-append l k in
       let l4 = length-append (l ++ k) n in
       let e2 = after m 0 (0xAB ∷ []) l h1 refl h2 (omega arith) in
       let e3 = after m 0 (0xAB ∷ l) k e2 (omega arith) (h3 ∙ ap (overwrite w2 at) s) (omega arith) in
       let e4 = after m 0 (0xAB ∷ (l ++ k)) n e3 (omega arith) h4 (omega arith) in
       let e5 = after m 0 (0xAB ∷ ((l ++ k) ++ n)) rapdus e4 (omega arith) h5 (omega arith) in
-      ((rw (append-assoc, append-assoc) at e5) ∙ ap (λ (k : ℕ). overwrite m 0 (0xAB ∷ (lengthBytes k ++ definiteBody count rapdus))) (sym (body-length count rapdus sized small)), rw (answer-length count rapdus sized small) (omega arith))
+      ((rw (append-assoc, append-assoc) at e5) ∙ ap (λ (k : ℕ). overwrite m 0 (0xAB ∷ (lengthBytes k ++ definiteBody count rapdus))) (sym (body-length count rapdus sized)), rw (answer-length count rapdus sized) (omega arith))
 
 -- the answer to AE: tag and 80, R-APDUs, and 00 00
 pub indefinite-written : (m rapdus : List ℕ) → 1024 ≤ length m → length rapdus ≤ 1004 → {w1 w2 w3 : List ℕ} → w1 ≡ overwrite m 0 (0xAF ∷ 0x80 ∷ []) → w2 ≡ overwrite w1 2 rapdus → w3 ≡ overwrite w2 (2 + length rapdus) (0 ∷ 0 ∷ []) → (w3 ≡ overwrite m 0 (indefiniteAnswer rapdus)) × (2 + length rapdus + 2 ≡ length (indefiniteAnswer rapdus))
@@ -77,3 +84,9 @@ unfolding indefiniteAnswer
 indefinite-written m rapdus room few h1 h2 h3 =
     let e2 = after m 0 (0xAF ∷ 0x80 ∷ []) rapdus h1 refl h2 (omega arith) in
     (after m 0 (0xAF ∷ 0x80 ∷ rapdus) (0 ∷ 0 ∷ []) e2 (omega arith) h3 (omega arith), rw length-append (omega arith))
+
+-- either has at most ten bytes besides the R-APDUs
+pub answer-few : (definite : Bool) (count : ℕ) (rapdus : List ℕ) → length (answerBytes definite count rapdus) ≤ 10 + length rapdus
+unfolding answerBytes indefiniteAnswer pick
+answer-few true count rapdus = omega (arith, answer-length count rapdus refl, length-few (2 + (length (countBytes count) + length rapdus)), count-few count)
+answer-few false count rapdus = omega (arith, length-append rapdus (0 ∷ 0 ∷ []))

@@ -16,10 +16,8 @@ ghost use mathlib.Core.List.{List};
 ghost use Prim.Native.Nat.{ℕ, _+_, _≤_, _<_};
 ghost use lib.ListN.{length};
 ghost use Rattle.octets.specs.Bytes.{overwrite};
-ghost use Rattle.card.specs.Row.{Card, lent, entries, rowOf};
-ghost use Rattle.card.specs.Tree.{isRoot};
-ghost use Rattle.journal.specs.Entries.{scriptsOnTrial};
-ghost use Rattle.journal.specs.Sound.{soundCard};
+ghost use Rattle.card.specs.Row.{Card, lent};
+ghost use Rattle.journal.specs.Sound.{soundCard, Starts};
 ghost use Rattle.session.specs.Good.{Good};
 ghost use Rattle.session.specs.Session.{startWaiting};
 ghost use Rattle.command.specs.Outcomes.{wordOf, dataCount, OutcomeFits, goesOn};
@@ -142,7 +140,7 @@ pub fn run(
     files: &mut [u8],
     journal: &mut [u8],
 ) -> Gathered
-    requires { ⌜ (at ≤ end) × (end ≤ length (now script)) × (length (now script) ≤ 1024) × (soundCard (lent (now table) (now files) (now journal)) ≡ true) × (1 ≤ scriptsOnTrial (now journal)) × (application < entries (now table)) × (isRoot (rowOf (now table) application) ≡ true) × (length (now out) ≡ 1004) × (now waiting ≡ startWaiting) ⌝ }
+    requires { ⌜ (at ≤ end) × (end ≤ length (now script)) × (length (now script) ≤ 1024) × Starts (lent (now table) (now files) (now journal)) application × (length (now out) ≡ 1004) × (now waiting ≡ startWaiting) ⌝ }
     ensures { λ r. ⌜ (spec.progressOf r (now (waiting .exit)) (lent (now (table .exit)) (now (files .exit)) (now (journal .exit))) (now (out .exit)) ≡ spec.runFrom (length (now (script .entry))) (now (script .entry)) domain definite at end (spec.begun application (lent (now (table .entry)) (now (files .entry)) (now (journal .entry)))))
         × (r .kept + r .last ≤ 1004) × (r .step .count ≤ 1024) ⌝ }
 {

@@ -1,5 +1,6 @@
 -- The journal's soundness beside a table and a file memory.
-use Prim.Native.Nat.{ℕ, _+_, _/_, _%_}
+use Prim.Native.Nat.{ℕ, _+_, _/_, _%_, _≤_, _<_}
+use mathlib.Core.Path.{_≡_}
 use mathlib.Core.Bool.{Bool, true, _&&_}
 use mathlib.Core.List.{List, [], _∷_}
 use lib.ListN.{length, drop}
@@ -9,6 +10,7 @@ use Rattle.octets.specs.Bytes.{byte, part, allZero, same}
 use Rattle.card.specs.declared.Row.{Row}
 use Rattle.card.specs.Row.{Card, entrySize, entries, rowOf, newestByte, stateByte, isCyclic, isFile}
 use Rattle.card.specs.Sound.{newestSound, stateSound, soundTable}
+use Rattle.card.specs.Tree.{isRoot}
 use Rattle.journal.specs.Entries.{Entry, headSize, head, usedBytes, scriptsOnTrial, room, marksStart, holdsFileBytes, holdsTableByte, isMark, entriesOf}
 
 -- "The journal has 2,048 bytes"
@@ -86,3 +88,10 @@ soundJournal t files j =
 -- a card: table, file memory and journal
 unfoldable pub soundCard : Card → Bool
 soundCard c = soundTable (c .table) (c .files) && soundJournal (c .table) (c .files) (c .journal)
+
+-- what a script starts from: a sound card that has the script's mark, and an application, which is its own root
+pub record Starts (card : Card) (application : ℕ) : Type 0 where
+  pub sound : soundCard card ≡ true
+  pub marked : 1 ≤ scriptsOnTrial (card .journal)
+  pub inside : application < entries (card .table)
+  pub root : isRoot (rowOf (card .table) application) ≡ true

@@ -10,6 +10,7 @@ use borrow.Fn.Kinds.{Dens, endedOf}
 use Rattle.card.specs.Row.{Card, lent}
 use Rattle.engine.specs.Numbers.{Arguments}
 use Rattle.engine.specs.Calls as calls
+use Rattle.engine.proofs.Determined.{agree}
 use Rattle.rfm.specs.Packed.{Crossed, crosses, across}
 use Rattle.rfm.proofs.rfm_run.Kinds as run
 use Rattle.rfm.proofs.rfm_run.Reads as run-contract
@@ -26,9 +27,9 @@ pub record Same (one other : Crossed) : Type 0 where
   pub journal : one .card .journal ≡ other .card .journal
   pub response : one .response ≡ other .response
 
-same : (one other given : Crossed) → one ≡ given → other ≡ given → Same one other
-same one other given e f =
-    rw (e, f) (record { sum = refl; table = refl; files = refl; journal = refl; response = refl })
+-- a result is the same as itself
+itself : (r : Crossed) → Same r r
+itself r = record { sum = refl; table = refl; files = refl; journal = refl; response = refl }
 
 -- `rfm_run`, called with table, files, journal, application, domain, format, script and response memory
 module _ (κs : Lfts 5) (args : Dens κs run.ps) where
@@ -45,15 +46,12 @@ module _ (κs : Lfts 5) (args : Dens κs run.ps) where
   abbrev card : Card
   card = lent (now (args .0)) (now (args .1 .0)) (now (args .1 .1 .0))
 
+  -- a number with the lent memories at exit
   abbrev result : ℕ → AtExit (endedOf 5 run.ps run.r) κs → Crossed
   result n e = crosses n (lent (now (e .0)) (now (e .1 .0)) (now (e .1 .1 .0))) (now (e .1 .1 .1 .1 .1 .1 .1 .0))
 
-  -- what its contract tells a caller of a number and the memories at exit
-  run-says : (n : ℕ) (e : AtExit (endedOf 5 run.ps run.r) κs) → run-contract.Learnt κs args n e → result n e ≡ across (calls.run arguments card)
-  run-says n e h = h
-
   pub run-determined : (n k : ℕ) (e f : AtExit (endedOf 5 run.ps run.r) κs) → run-contract.Learnt κs args n e → run-contract.Learnt κs args k f → Same (result n e) (result k f)
-  run-determined n k e f h g = same _ _ _ (run-says n e h) (run-says k f g)
+  run-determined n k e f h g = agree Same itself {given = across (calls.run arguments card)} h g
 
 -- `rfm_take_back` and `rfm_confirm`, called with table, files and journal
 module _ (κs : Lfts 3) (args : Dens κs take-back.ps) where
@@ -63,14 +61,8 @@ module _ (κs : Lfts 3) (args : Dens κs take-back.ps) where
   abbrev lent-result : ℕ → AtExit (endedOf 3 take-back.ps take-back.r) κs → Crossed
   lent-result n e = crosses n (lent (now (e .0)) (now (e .1 .0)) (now (e .1 .1 .0))) []
 
-  take-back-says : (n : ℕ) (e : AtExit (endedOf 3 take-back.ps take-back.r) κs) → take-back-contract.Learnt κs args n e → lent-result n e ≡ across (calls.takeBack lent-card)
-  take-back-says n e h = h
-
-  confirm-says : (n : ℕ) (e : AtExit (endedOf 3 confirm.ps confirm.r) κs) → confirm-contract.Learnt κs args n e → lent-result n e ≡ across (calls.confirm lent-card)
-  confirm-says n e h = h
-
   pub take-back-determined : (n k : ℕ) (e f : AtExit (endedOf 3 take-back.ps take-back.r) κs) → take-back-contract.Learnt κs args n e → take-back-contract.Learnt κs args k f → Same (lent-result n e) (lent-result k f)
-  take-back-determined n k e f h g = same _ _ _ (take-back-says n e h) (take-back-says k f g)
+  take-back-determined n k e f h g = agree Same itself {given = across (calls.takeBack lent-card)} h g
 
   pub confirm-determined : (n k : ℕ) (e f : AtExit (endedOf 3 confirm.ps confirm.r) κs) → confirm-contract.Learnt κs args n e → confirm-contract.Learnt κs args k f → Same (lent-result n e) (lent-result k f)
-  confirm-determined n k e f h g = same _ _ _ (confirm-says n e h) (confirm-says k f g)
+  confirm-determined n k e f h g = agree Same itself {given = across (calls.confirm lent-card)} h g

@@ -7,6 +7,7 @@ use native.Mathlib.Omega.{arith}
 use lib.Dec.{leb, ltb, eqb}
 use lib.ListN.{length}
 use borrow.Author.Tests.{leb-true, ltb-true}
+use Rattle.octets.specs.Choice.{pick}
 use Rattle.octets.specs.Bytes.{byte, numAt}
 use Rattle.octets.proofs.Picks.{and-left, and-right, on-pick}
 use Rattle.octets.proofs.Numbers.{num-small}
@@ -14,7 +15,7 @@ use Rattle.tlv.specs.declared.lengths.Length.{Length}
 use Rattle.tlv.specs.declared.lengths.Length.the-variants.{Found, Bad}
 use Rattle.tlv.specs.declared.template.Template.{Template}
 use Rattle.tlv.specs.declared.template.Item.{Item}
-use Rattle.tlv.specs.Lengths.{shortLength, longLength, lengthAt, LengthFits}
+use Rattle.tlv.specs.Lengths.{wrongLength, lengthMissing, shortLength, longLength, lengthAt, LengthFits}
 use Rattle.tlv.specs.Templates.{definite, indefinite, templateOf, TemplateFits, isCapduTag, valueAt, itemAt, ItemFits}
 
 -- what comes of a length
@@ -32,38 +33,27 @@ value-fits (Found n place) at end more fits =
     (λ other. (more, omega arith))
 value-fits (Bad code) at end more fits = (more, fits)
 
+-- a length n of so many bytes behind its first byte, which is in shortest form from a least one on
+behind-fits : (at end size least n : ℕ) → n < 65536
+    → LengthFits at end (pick (leb (at + 1 + size) end) (pick (leb least n) (Found n (at + 1 + size)) (Bad wrongLength)) (Bad lengthMissing))
+unfolding LengthFits
+behind-fits at end size least n small =
+    on-pick (LengthFits at end) (leb (at + 1 + size) end) _ _
+    (λ there. on-pick (LengthFits at end) (leb least n) _ _ (λ right. (omega arith, leb-true (at + 1 + size) end there, small)) (λ wrong. omega arith))
+    (λ missing. omega arith)
+
 -- lengths, templates and items in a run of bytes
 module _ (bs : List ℕ) (bytes : (k : ℕ) → byte bs k < 256) where
-  short-fits : (at end : ℕ) → LengthFits at end (shortLength bs (at + 1) end)
-  unfolding shortLength LengthFits
-  short-fits at end =
-      on-pick (LengthFits at end) (leb (at + 1 + 1) end) _ _
-      (λ there.
-      let h = leb-true (at + 1 + 1) end there in
-      let b = bytes (at + 1) in
-      on-pick (LengthFits at end) (leb 0x80 (byte bs (at + 1))) _ _ (λ right. (omega arith, omega arith, omega arith)) (λ wrong. omega arith))
-      (λ missing. omega arith)
-
-  long-fits : (at end : ℕ) → LengthFits at end (longLength bs (at + 1) end)
-  unfolding longLength LengthFits
-  long-fits at end =
-      on-pick (LengthFits at end) (leb (at + 1 + 2) end) _ _
-      (λ there.
-      let h = leb-true (at + 1 + 2) end there in
-      let b = num-small bs (at + 1) (bytes (at + 1)) (bytes (at + 1 + 1)) in
-      on-pick (LengthFits at end) (leb 0x0100 (numAt bs (at + 1))) _ _ (λ right. (omega arith, omega arith, b)) (λ wrong. omega arith))
-      (λ missing. omega arith)
-
   length-fits : (at end : ℕ) → LengthFits at end (lengthAt bs at end)
-  unfolding lengthAt LengthFits
+  unfolding shortLength longLength lengthAt LengthFits
   length-fits at end =
       on-pick (LengthFits at end) (leb (at + 1) end) _ _
       (λ here.
       let h = leb-true (at + 1) end here in
       let b = bytes at in
       on-pick (LengthFits at end) (leb (byte bs at) 0x7F) _ _ (λ small. (omega arith, omega arith, omega arith))
-      (λ large. on-pick (LengthFits at end) (eqb (byte bs at) 0x81) _ _ (λ short. short-fits at end)
-      (λ other. on-pick (LengthFits at end) (eqb (byte bs at) 0x82) _ _ (λ long. long-fits at end) (λ wrong. omega arith))))
+      (λ large. on-pick (LengthFits at end) (eqb (byte bs at) 0x81) _ _ (λ short. behind-fits at end 1 0x80 (byte bs (at + 1)) (omega (arith, bytes (at + 1))))
+      (λ other. on-pick (LengthFits at end) (eqb (byte bs at) 0x82) _ _ (λ long. behind-fits at end 2 0x0100 (numAt bs (at + 1)) (num-small bs (at + 1) (bytes (at + 1)) (bytes (at + 1 + 1)))) (λ wrong. omega arith))))
       (λ missing. omega arith)
 
   pub length-told : (at end : ℕ) {l : Length} → l ≡ lengthAt bs at end → (l ≡ lengthAt bs at end) × LengthFits at end l

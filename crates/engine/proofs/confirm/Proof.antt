@@ -1,5 +1,5 @@
 -- `engine::confirm` meets its contract: each `return` is a case of `confirm`. Assumes nothing.
-use mathlib.Core.Path.{_≡_, sym, ap, ap₂, _∙_}
+use mathlib.Core.Path.{_≡_, sym, ap, _∙_}
 use mathlib.Core.Bool.{true}
 use mathlib.Core.List.{List, []}
 use Prim.Native.Nat.{ℕ}
@@ -10,12 +10,14 @@ use Rattle.card.specs.Row.{Card, lent}
 use Rattle.journal.specs.Entries.{room}
 use Rattle.journal.specs.Sound.{soundCard}
 use Rattle.journal.specs.Changes.{withJournal, confirmed}
-use Rattle.journal.proofs.Parts.{Parts, card-parts}
-use Rattle.engine.specs.declared.Answer.{Answer}
-use Rattle.engine.specs.Calls.{gives}
-use Rattle.engine.proofs.Answers.{numbered-small, confirm-unsound, confirm-done}
+use Rattle.journal.proofs.Parts.{card-parts}
+use Rattle.engine.specs.Calls.{gives, numbered}
+use Rattle.engine.proofs.Answers.{answers-number, confirm-unsound, confirm-done}
 use Rattle.engine.proofs.confirm.Statement.{statement}
 use Rattle.engine.proofs.confirm.Tie as tie
+
+abbrev cardOf : tie.Start → Card
+cardOf s = lent (s .args .table .now) (s .args .files .now) (s .args .journal .now)
 
 sound-card-requires : tie.Need-sound-card-requires
 sound-card-requires c κs = search needs
@@ -34,22 +36,17 @@ same-length-3 c = search needs
 
 returns : tie.Need-returns
 returns c =
-    let a = c .before .before .before .before .before .before .before .before .before .args in
-    let card : Card = lent (a .table .now) (a .files .now) (a .journal .now) in (
-      ap (λ (x : Answer). gives x card []) (c .numbered .ensures)
-          ∙ sym (confirm-unsound card (sym (c .before .before .sound-card .ensures) ∙ not-true (c .before .before .sound-card .result) (c .before .if1 .taken))),
-      numbered-small _ _ (c .numbered .ensures) (omega arith),
-    )
+    answers-number 1 (omega arith) (c .numbered .ensures) _ _
+    (sym (confirm-unsound _ (sym (c .before .before .sound-card .ensures) ∙ not-true (c .before .before .sound-card .result) (c .before .if1 .taken))))
+
+-- past the test, the card is sound
+sound : (o : tie.Else1) → soundCard (cardOf (o .before .before .before .before .before .before .before .before)) ≡ true
+sound o = sym (o .before .sound-card .ensures) ∙ not-false (o .before .sound-card .result) (o .if1 .left)
 
 confirm-requires : tie.Need-confirm-requires
 unfolding room
 confirm-requires c κs =
-    let a = c .before .before .before .before .before .before .before .before .before .args in
-    let card : Card = lent (a .table .now) (a .files .now) (a .journal .now) in
-    let sound : soundCard card ≡ true =
-    sym (c .before .before .sound-card .ensures) ∙ not-false (c .before .before .sound-card .result) (c .before .if1 .left)
-    in
-    let parts : Parts (card .table) (card .files) (card .journal) = card-parts card sound in
+    let parts = card-parts (cardOf (c .before .before .before .before .before .before .before .before .before)) (sound (c .before)) in
     (omega arith, parts .rest)
 
 numbered-requires-2 : tie.Need-numbered-requires-2
@@ -68,14 +65,8 @@ returns-2 : tie.Need-returns-2
 unfolding withJournal confirmed
 returns-2 c =
     let a = c .before .before .before .before .before .before .before .before .before .before .before .before .before .args in
-    let card : Card = lent (a .table .now) (a .files .now) (a .journal .now) in
-    let sound : soundCard card ≡ true =
-    sym (c .before .before .before .before .before .before .sound-card .ensures) ∙ not-false (c .before .before .before .before .before .before .sound-card .result) (c .before .before .before .before .before .if1 .left)
-    in (
-      ap₂ (λ (x : Answer) (j : List ℕ). gives x (lent (a .table .now) (a .files .now) j) []) (c .numbered2 .ensures) (c .before .before .before .confirm .ensures)
-          ∙ sym (confirm-done card sound),
-      numbered-small _ _ (c .numbered2 .ensures) (omega arith),
-    )
+    answers-number 0 (omega arith) (c .numbered2 .ensures) _ _
+    (ap (λ (j : List ℕ). gives (numbered 0) (lent (a .table .now) (a .files .now) j) []) (c .before .before .before .confirm .ensures) ∙ sym (confirm-done _ (sound (c .before .before .before .before .before))))
 
 pub confirm-spec : {M : Type 1} → statement M
 confirm-spec =

@@ -1,13 +1,12 @@
 -- `engine::run` meets its contract: a refusal changes nothing, and else the mark is set and the script of its format run. Assumes nothing.
-use mathlib.Core.Path.{refl, ap, _∙_}
+use mathlib.Core.Path.{_≡_, sym, _∙_}
 use native.Mathlib.Omega.{arith}
 use borrow.Author.Needs.{needs}
 use Rattle.card.specs.Row.{Card, lent}
-use Rattle.engine.specs.declared.Answer.{Answer}
-use Rattle.engine.specs.Numbers.{Arguments}
-use Rattle.engine.specs.Calls.{gives}
-use Rattle.engine.proofs.Answers.{numbered-small}
-use Rattle.engine.proofs.Accepted.{refused-run, journal-whole, mark-inside, scripts-byte, script-starts, accepted-run, compact-script, expanded-script}
+use Rattle.journal.specs.Changes.{marked}
+use Rattle.engine.specs.Numbers.{Arguments, firstGiven, runRefusals}
+use Rattle.engine.proofs.Answers.{answers-number}
+use Rattle.engine.proofs.Accepted.{journal-whole, mark-inside, scripts-byte, script-starts, accepted-run, is-marked, refused-run, compact-script, expanded-script}
 use Rattle.engine.proofs.run.Statement.{statement}
 use Rattle.engine.proofs.run.Tie as tie
 
@@ -44,40 +43,34 @@ same-length-4 c = search needs
 
 returns : tie.Need-returns
 returns c =
-    let s = c .before .before .before .before .before .before .before .before .before .before .before .before in
-    let n = c .before .before .run-number .ensures in (
-      ap (λ (x : Answer). gives x (cardOf s) (s .args .response .now)) (c .numbered .ensures)
-          ∙ refused-run (cardOf s) (argumentsOf s) _ (n .0) (c .before .if1 .taken),
-      numbered-small _ _ (c .numbered .ensures) (omega (arith, n .1)),
-    )
+    let n = c .before .before .run-number .ensures in
+    answers-number _ (omega (arith, n .1)) (c .numbered .ensures) _ _ (refused-run _ _ _ (n .0) (c .before .if1 .taken))
+
+-- past the test, no number is given
+none : (o : tie.Else1) → firstGiven (runRefusals (cardOf (o .before .before .before .before .before .before .before .before .before .before .before)) (argumentsOf (o .before .before .before .before .before .before .before .before .before .before .before))) ≡ 0
+none o = sym (o .before .run-number .ensures .0) ∙ o .if1 .left
 
 used-bytes-requires : tie.Need-used-bytes-requires
-used-bytes-requires c κs =
-    let s = c .before .before .before .before .before .before .before .before .before .before .before .before in
-    omega (arith, journal-whole (cardOf s) (argumentsOf s) _ (c .before .before .run-number .ensures .0) (c .before .if1 .left))
+used-bytes-requires c κs = omega (arith, journal-whole _ _ (none (c .before)))
 
 slice-read-scripts : tie.Need-slice-read-scripts
-slice-read-scripts c =
-    let s = c .before .before .before .before .before .before .before .before .before .before .before .before .before .before in
-    omega (arith, journal-whole (cardOf s) (argumentsOf s) _ (c .before .before .before .before .run-number .ensures .0) (c .before .before .before .if1 .left))
+slice-read-scripts c = omega (arith, journal-whole _ _ (none (c .before .before .before)))
 
 add-push-mark : tie.Need-add-push-mark
-add-push-mark c =
-    let s = c .before .before .before .before .before .before .before .before .before .before .before .before .before .before .before in
-    omega (arith, scripts-byte (cardOf s) (argumentsOf s) _ (c .before .before .before .before .before .run-number .ensures .0) (c .before .before .before .before .if1 .left))
+add-push-mark c = omega (arith, scripts-byte _ _ (none (c .before .before .before .before)))
 
 push-mark-requires : tie.Need-push-mark-requires
-push-mark-requires c κs =
-    let s = c .before .before .before .before .before .before .before .before .before .before .before .before .before .before .before in
-    omega (arith, mark-inside (cardOf s) (argumentsOf s) _ (c .before .before .before .before .before .run-number .ensures .0) (c .before .before .before .before .if1 .left), c .before .before .used-bytes .ensures .0)
+push-mark-requires c κs = omega (arith, mark-inside _ _ (none (c .before .before .before .before)), c .before .before .used-bytes .ensures .0)
+
+-- the mark is set
+is : (k : tie.After-push-mark) → k .push-mark .last .0 ≡ marked (k .before .before .before .before .before .before .before .before .before .before .before .before .before .before .before .before .args .journal .now)
+is k = is-marked (k .before .before .before .before .before .before .before .before .before .before .before .before .before .before .before .before .args .journal .now) (k .before .before .before .used-bytes .ensures .0) (k .push-mark .ensures)
 
 wide-requires : tie.Need-wide-requires
 wide-requires c κs = search needs
 
 run-compact-requires : tie.Need-run-compact-requires
-run-compact-requires c κs =
-    let s = c .before .before .before .before .before .before .before .before .before .before .before .before .before .before .before .before .before .before .before .before .before .before .before .before in
-    script-starts (cardOf s) (argumentsOf s) _ (c .before .before .before .before .before .before .before .before .before .before .before .before .before .before .run-number .ensures .0) (c .before .before .before .before .before .before .before .before .before .before .before .before .before .if1 .left) _ _ _ (c .before .before .before .before .before .before .before .before .before .before .before .used-bytes .ensures .0) refl (c .before .before .before .before .before .before .before .before .push-mark .ensures)
+run-compact-requires c κs = script-starts _ _ (none (c .before .before .before .before .before .before .before .before .before .before .before .before .before)) _ (is (c .before .before .before .before .before .before .before .before))
 
 same-length-5 : tie.Need-same-length-5
 same-length-5 c = search needs
@@ -93,17 +86,12 @@ same-length-8 c = search needs
 
 returns-2 : tie.Need-returns-2
 returns-2 c =
-    let s = c .before .before .before .before .before .before .before .before .before .before .before .before .before .before .before .before .before .before .before .before .before .before .before .before .before .before .before .before .before .before .before .before .before in (
-      c .before .before .before .before .before .before .before .before .run-compact .ensures .0
-          ∙ compact-script (argumentsOf s) (c .before .before .before .before .before .before .before .before .before .before .before .before .before .before .wide .ensures .0) (c .before .before .before .before .before .before .before .before .before .before .before .before .before .if2 .taken) _
-          ∙ accepted-run (cardOf s) (argumentsOf s) _ (c .before .before .before .before .before .before .before .before .before .before .before .before .before .before .before .before .before .before .before .before .before .before .before .run-number .ensures .0) (c .before .before .before .before .before .before .before .before .before .before .before .before .before .before .before .before .before .before .before .before .before .before .if1 .left) _ _ _ (c .before .before .before .before .before .before .before .before .before .before .before .before .before .before .before .before .before .before .before .before .used-bytes .ensures .0) refl (c .before .before .before .before .before .before .before .before .before .before .before .before .before .before .before .before .before .push-mark .ensures),
-      c .before .before .before .before .before .before .before .before .run-compact .ensures .1,
-    )
+    let r = c .before .before .before .before .before .before .before .before .run-compact .ensures in
+    let t = c .before .before .before .before .before .before .before .before .before .before .before .before .before in
+    (r .0 ∙ compact-script (argumentsOf (c .before .before .before .before .before .before .before .before .before .before .before .before .before .before .before .before .before .before .before .before .before .before .before .before .before .before .before .before .before .before .before .before .before)) (t .before .wide .ensures .0) (t .if2 .taken) _ ∙ accepted-run _ _ (none (c .before .before .before .before .before .before .before .before .before .before .before .before .before .before .before .before .before .before .before .before .before .before)) _ (is (c .before .before .before .before .before .before .before .before .before .before .before .before .before .before .before .before .before)), r .1)
 
 run-expanded-requires : tie.Need-run-expanded-requires
-run-expanded-requires c κs =
-    let s = c .before .before .before .before .before .before .before .before .before .before .before .before .before .before .before .before .before .before .before .before .before .before .before .before in
-    script-starts (cardOf s) (argumentsOf s) _ (c .before .before .before .before .before .before .before .before .before .before .before .before .before .before .run-number .ensures .0) (c .before .before .before .before .before .before .before .before .before .before .before .before .before .if1 .left) _ _ _ (c .before .before .before .before .before .before .before .before .before .before .before .used-bytes .ensures .0) refl (c .before .before .before .before .before .before .before .before .push-mark .ensures)
+run-expanded-requires c κs = script-starts _ _ (none (c .before .before .before .before .before .before .before .before .before .before .before .before .before)) _ (is (c .before .before .before .before .before .before .before .before))
 
 same-length-9 : tie.Need-same-length-9
 same-length-9 c = search needs
@@ -119,12 +107,9 @@ same-length-12 c = search needs
 
 returns-3 : tie.Need-returns-3
 returns-3 c =
-    let s = c .before .before .before .before .before .before .before .before .before .before .before .before .before .before .before .before .before .before .before .before .before .before .before .before .before .before .before .before .before .before .before .before .before in (
-      c .before .before .before .before .before .before .before .before .run-expanded .ensures .0
-          ∙ expanded-script (argumentsOf s) (c .before .before .before .before .before .before .before .before .before .before .before .before .before .before .wide .ensures .0) (c .before .before .before .before .before .before .before .before .before .before .before .before .before .if2 .left) _
-          ∙ accepted-run (cardOf s) (argumentsOf s) _ (c .before .before .before .before .before .before .before .before .before .before .before .before .before .before .before .before .before .before .before .before .before .before .before .run-number .ensures .0) (c .before .before .before .before .before .before .before .before .before .before .before .before .before .before .before .before .before .before .before .before .before .before .if1 .left) _ _ _ (c .before .before .before .before .before .before .before .before .before .before .before .before .before .before .before .before .before .before .before .before .used-bytes .ensures .0) refl (c .before .before .before .before .before .before .before .before .before .before .before .before .before .before .before .before .before .push-mark .ensures),
-      c .before .before .before .before .before .before .before .before .run-expanded .ensures .1,
-    )
+    let r = c .before .before .before .before .before .before .before .before .run-expanded .ensures in
+    let t = c .before .before .before .before .before .before .before .before .before .before .before .before .before in
+    (r .0 ∙ expanded-script (argumentsOf (c .before .before .before .before .before .before .before .before .before .before .before .before .before .before .before .before .before .before .before .before .before .before .before .before .before .before .before .before .before .before .before .before .before)) (t .before .wide .ensures .0) (t .if2 .left) _ ∙ accepted-run _ _ (none (c .before .before .before .before .before .before .before .before .before .before .before .before .before .before .before .before .before .before .before .before .before .before)) _ (is (c .before .before .before .before .before .before .before .before .before .before .before .before .before .before .before .before .before)), r .1)
 
 pub run-spec : {M : Type 1} → statement M
 run-spec =

@@ -1,20 +1,21 @@
 -- `engine::take_back` meets its contract: each `return` is a case of `takeBack`. Assumes nothing.
-use mathlib.Core.Path.{_≡_, sym, ap, ap₂, _∙_}
+use mathlib.Core.Path.{_≡_, sym, ap, _∙_}
 use mathlib.Core.Bool.{true}
 use mathlib.Core.List.{[]}
 use native.Mathlib.Omega.{arith}
-use lib.ListN.{length}
 use borrow.Author.Needs.{needs}
 use borrow.Author.Tests.{not-true, not-false}
 use Rattle.card.specs.Row.{Card, lent}
 use Rattle.journal.specs.Entries.{scriptsOnTrial}
 use Rattle.journal.specs.Sound.{soundCard}
 use Rattle.journal.proofs.Parts.{card-parts}
-use Rattle.engine.specs.declared.Answer.{Answer}
-use Rattle.engine.specs.Calls.{gives}
-use Rattle.engine.proofs.Answers.{numbered-small, back-unsound, back-none, back-done}
+use Rattle.engine.specs.Calls.{gives, numbered}
+use Rattle.engine.proofs.Answers.{answers-number, back-unsound, back-none, back-done}
 use Rattle.engine.proofs.take_back.Statement.{statement}
 use Rattle.engine.proofs.take_back.Tie as tie
+
+abbrev cardOf : tie.Start → Card
+cardOf s = lent (s .args .table .now) (s .args .files .now) (s .args .journal .now)
 
 sound-card-requires : tie.Need-sound-card-requires
 sound-card-requires c κs = search needs
@@ -33,22 +34,18 @@ same-length-3 c = search needs
 
 returns : tie.Need-returns
 returns c =
-    let a = c .before .before .before .before .before .before .before .before .before .args in
-    let card : Card = lent (a .table .now) (a .files .now) (a .journal .now) in (
-      ap (λ (x : Answer). gives x card []) (c .numbered .ensures)
-          ∙ sym (back-unsound card (sym (c .before .before .sound-card .ensures) ∙ not-true (c .before .before .sound-card .result) (c .before .if1 .taken))),
-      numbered-small _ _ (c .numbered .ensures) (omega arith),
-    )
+    answers-number 1 (omega arith) (c .numbered .ensures) _ _
+    (sym (back-unsound _ (sym (c .before .before .sound-card .ensures) ∙ not-true (c .before .before .sound-card .result) (c .before .if1 .taken))))
+
+-- past the tests, the card is sound and has a script on trial
+sound : (o : tie.Else1) → soundCard (cardOf (o .before .before .before .before .before .before .before .before)) ≡ true
+sound o = sym (o .before .sound-card .ensures) ∙ not-false (o .before .sound-card .result) (o .if1 .left)
+
+some : (o : tie.Else2) → scriptsOnTrial (cardOf (o .before .before .before .before .before .before .before .before .before .before .before) .journal) ≡ 0 → ⊥
+some o none = o .if2 .left (o .before .scripts-on-trial .ensures .0 ∙ none)
 
 scripts-on-trial-requires : tie.Need-scripts-on-trial-requires
-scripts-on-trial-requires c κs =
-    let a = c .before .before .before .before .before .before .before .before .before .args in
-    let card : Card = lent (a .table .now) (a .files .now) (a .journal .now) in
-    let sound : soundCard card ≡ true =
-    sym (c .before .before .sound-card .ensures) ∙ not-false (c .before .before .sound-card .result) (c .before .if1 .left)
-    in
-    let whole : length (card .journal) ≡ 2048 = card-parts card sound .size in
-    omega arith
+scripts-on-trial-requires c κs = omega (arith, card-parts (cardOf (c .before .before .before .before .before .before .before .before .before)) (sound (c .before)) .size)
 
 numbered-requires-2 : tie.Need-numbered-requires-2
 numbered-requires-2 c κs = search needs
@@ -64,27 +61,13 @@ same-length-6 c = search needs
 
 returns-2 : tie.Need-returns-2
 returns-2 c =
-    let a = c .before .before .before .before .before .before .before .before .before .before .before .before .args in
-    let card : Card = lent (a .table .now) (a .files .now) (a .journal .now) in
-    let sound : soundCard card ≡ true =
-    sym (c .before .before .before .before .before .sound-card .ensures) ∙ not-false (c .before .before .before .before .before .sound-card .result) (c .before .before .before .before .if1 .left)
-    in (
-      ap (λ (x : Answer). gives x card []) (c .numbered2 .ensures)
-          ∙ sym (back-none card sound (sym (c .before .before .scripts-on-trial .ensures .0) ∙ c .before .if2 .taken)),
-      numbered-small _ _ (c .numbered2 .ensures) (omega arith),
-    )
+    answers-number 7 (omega arith) (c .numbered2 .ensures) _ _
+    (sym (back-none _ (sound (c .before .before .before .before)) (sym (c .before .before .scripts-on-trial .ensures .0) ∙ c .before .if2 .taken)))
 
 take-back-requires : tie.Need-take-back-requires
 take-back-requires c κs =
-    let a = c .before .before .before .before .before .before .before .before .before .before .before .before .before .before .args in
-    let card : Card = lent (a .table .now) (a .files .now) (a .journal .now) in
-    let sound : soundCard card ≡ true =
-    sym (c .before .before .before .before .before .before .before .sound-card .ensures) ∙ not-false (c .before .before .before .before .before .before .before .sound-card .result) (c .before .before .before .before .before .before .if1 .left)
-    in
-    let some : scriptsOnTrial (card .journal) ≡ 0 → ⊥ =
-    λ none. c .before .before .before .if2 .left (c .before .before .before .before .scripts-on-trial .ensures .0 ∙ none)
-    in
-    (sound, omega arith)
+    let trial = some (c .before .before .before) in
+    (sound (c .before .before .before .before .before .before), omega arith)
 
 numbered-requires-3 : tie.Need-numbered-requires-3
 numbered-requires-3 c κs = search needs
@@ -100,18 +83,8 @@ same-length-9 c = search needs
 
 returns-3 : tie.Need-returns-3
 returns-3 c =
-    let a = c .before .before .before .before .before .before .before .before .before .before .before .before .before .before .before .before .before .before .before .before .before .before .args in
-    let card : Card = lent (a .table .now) (a .files .now) (a .journal .now) in
-    let sound : soundCard card ≡ true =
-    sym (c .before .before .before .before .before .before .before .before .before .before .before .before .before .before .before .sound-card .ensures) ∙ not-false (c .before .before .before .before .before .before .before .before .before .before .before .before .before .before .before .sound-card .result) (c .before .before .before .before .before .before .before .before .before .before .before .before .before .before .if1 .left)
-    in
-    let some : scriptsOnTrial (card .journal) ≡ 0 → ⊥ =
-    λ none. c .before .before .before .before .before .before .before .before .before .before .before .if2 .left (c .before .before .before .before .before .before .before .before .before .before .before .before .scripts-on-trial .ensures .0 ∙ none)
-    in (
-      ap₂ (λ (x : Answer) (k : Card). gives x k []) (c .numbered3 .ensures) (c .before .before .before .before .before .before .before .take-back .ensures)
-          ∙ sym (back-done card sound some),
-      numbered-small _ _ (c .numbered3 .ensures) (omega arith),
-    )
+    answers-number 0 (omega arith) (c .numbered3 .ensures) _ _
+    (ap (λ (k : Card). gives (numbered 0) k []) (c .before .before .before .before .before .before .before .take-back .ensures) ∙ sym (back-done _ (sound (c .before .before .before .before .before .before .before .before .before .before .before .before .before .before)) (some (c .before .before .before .before .before .before .before .before .before .before .before))))
 
 pub take-back-spec : {M : Type 1} → statement M
 take-back-spec =

@@ -8,7 +8,6 @@ use borrow.Author.Tests.{not-true, not-false}
 use Rattle.card.specs.Row.{lent}
 use Rattle.card.proofs.Promises.{few-entries}
 use Rattle.journal.proofs.Parts.{card-table}
-use Rattle.session.specs.declared.Session.{Session}
 use Rattle.command.specs.declared.Outcome.the-variants.{Well}
 use Rattle.command.specs.Outcomes.{goesOn}
 use Rattle.command.specs.Commands.{started}
@@ -32,9 +31,8 @@ abbrev μ-loop : tie.MeasureT-loop
 start-requires : tie.Need-start-requires Inv-loop μ-loop
 start-requires c κs =
     let s = c .before .before .before .before .before in
-    let here = s .pre .2 in
-    let few = few-entries (s .args .table .now) (s .args .files .now) (card-table (lent (s .args .table .now) (s .args .files .now) (s .args .journal .now)) (s .pre .0)) in
-    omega arith
+    let few = few-entries (s .args .table .now) (s .args .files .now) (card-table (lent (s .args .table .now) (s .args .files .now) (s .args .journal .now)) (s .pre .0 .sound)) in
+    omega (arith, few, s .pre .0 .inside)
 
 loop-holds : tie.Need-loop-holds Inv-loop μ-loop
 unfolding started
@@ -45,9 +43,7 @@ loop-holds c =
       refl,
       refl,
       refl,
-      begins (s .args .script .now) (s .args .application) (s .args .domain) (lent (s .args .table .now) (s .args .files .now) (s .args .journal .now)) _ (s .pre .5) _
-          (ap (λ (k : Session). unfold started in record { session = k; outcome = Well 0x9000; count = 0 }) (c .start .ensures))
-          (s .pre .0) (s .pre .1) (s .pre .2) (s .pre .3),
+      rw (s .pre .2) (begins (s .pre .0) (λ i. record { session = c .start .ensures i; outcome = Well 0x9000; count = 0 })),
     )
 
 next-reading-requires : tie.Need-next-reading-requires Inv-loop μ-loop
@@ -62,7 +58,7 @@ step-read-requires c κs =
     let l = c .before .before .before .before .before .before .before .loop .inv in
     let g = l .5 in
     let few = g .counted in
-    let short = c .before .before .before .before .before .before .before .before .before .before .before .before .before .before .pre .4 in
+    let short = c .before .before .before .before .before .before .before .before .before .before .before .before .before .before .pre .1 in
     (fits .inside, fits .p1, fits .p2, fits .p3, fits .brief, g .holds .sound, g .holds .good, omega arith, l .4, g .holds .waiting)
 
 word-of-requires : tie.Need-word-of-requires Inv-loop μ-loop
@@ -85,18 +81,17 @@ same-length-4 c = omega arith
 
 returns : tie.Need-returns Inv-loop μ-loop
 returns c =
-    let s = c .before .before .before .before .before .before .before .before .before .before .before .before .before .before .before .before .before .before .before .before .before .before .before .before .before .before .before in
     let l = c .before .before .before .before .before .before .before .before .before .before .before .before .before .before .before .before .before .before .before .before .loop in
     let r = c .before .before .before .before .before .before .before .before .before .before .before .before .before .before .before .before .before .before .next-reading in
     let done = c .before .before .before .before .before .before .before .before .before .before .before .before .step-read in
-    stops (s .args .script .now) (s .args .application) (s .args .domain) _ _ _ (l .step) (l .at) (l .inv .5) (done .result) _ _ (r .result) (c .before .before .before .before .before .before .before .before .before .before .before .before .before .before .before .before .before .before .before .loop-test .taken) (done .ensures) (r .ensures .0)
+    stops (l .inv .5) (c .before .before .before .before .before .before .before .before .before .before .before .before .before .before .before .before .before .before .before .loop-test .taken) (done .ensures) (r .ensures .0)
     (sym (ap goesOn (c .before .before .word-of .ensures)) ∙ sym (c .before .goes-on .ensures) ∙ not-true (c .before .goes-on .result) (c .if1 .taken))
 
 add-at : tie.Need-add-at Inv-loop μ-loop
 unfolding placeAfter
 add-at c =
     let inside = c .before .before .before .before .before .before .before .before .before .before .before .before .before .before .before .before .before .before .before .next-reading .ensures .1 .inside in
-    let short = c .before .before .before .before .before .before .before .before .before .before .before .before .before .before .before .before .before .before .before .before .before .before .before .before .before .before .before .before .pre .4 in
+    let short = c .before .before .before .before .before .before .before .before .before .before .before .before .before .before .before .before .before .before .before .before .before .before .before .before .before .before .before .before .pre .1 in
     omega arith
 
 loop-less : tie.Need-loop-less Inv-loop μ-loop
@@ -109,18 +104,15 @@ loop-less c =
 
 loop-again : tie.Need-loop-again Inv-loop μ-loop
 loop-again c =
-    let s = c .before .before .before .before .before .before .before .before .before .before .before .before .before .before .before .before .before .before .before .before .before .before .before .before .before .before .before .before in
     let l = c .before .before .before .before .before .before .before .before .before .before .before .before .before .before .before .before .before .before .before .before .before .loop in
     let r = c .before .before .before .before .before .before .before .before .before .before .before .before .before .before .before .before .before .before .before .next-reading in
-    let done = c .before .before .before .before .before .before .before .before .before .before .before .before .before .step-read in
-    let script = s .args .script .now in (
+    let done = c .before .before .before .before .before .before .before .before .before .before .before .before .before .step-read in (
       omega arith,
       omega (arith, c .before .before .before .before .before .before .before .before .before .table .given),
       omega (arith, c .before .before .before .before .before .before .before .files .given),
       omega arith,
       omega arith,
-      goes script (s .args .application) (s .args .domain) _ _ _ (l .step) (l .at) (l .inv .5) (λ i. c .before .before .before .before .before .before .before .before .before .before .before .before .before .before .before .before .before .before .before .before .before .before .before .before .before .before .before .shared-slice-known .given i .fits)
-          (done .result) _ _ (r .result) (c .before .before .before .before .before .before .before .before .before .before .before .before .before .before .before .before .before .before .before .before .loop-test .taken) (done .ensures) (r .ensures .0) (r .ensures .1)
+      goes (l .inv .5) (c .before .before .before .before .before .before .before .before .before .before .before .before .before .before .before .before .before .before .before .before .loop-test .taken) (done .ensures) (r .ensures .0) (λ i. c .before .before .before .before .before .before .before .before .before .before .before .before .before .before .before .before .before .before .before .before .before .before .before .before .before .before .before .shared-slice-known .given i .fits) (r .ensures .1)
           (sym (ap goesOn (c .before .before .before .word-of .ensures)) ∙ sym (c .before .before .goes-on .ensures) ∙ not-false (c .before .before .goes-on .result) (c .before .if1 .left)),
     )
 
@@ -138,9 +130,7 @@ same-length-8 c = omega arith
 
 returns-2 : tie.Need-returns-2 Inv-loop μ-loop
 returns-2 c =
-    let s = c .before .before .before .before .before .before .before .before in
-    let l = c .before .loop in
-    ends (s .args .script .now) (s .args .application) (s .args .domain) _ _ _ (l .step) (l .at) (l .inv .5) (omega arith)
+    ends (c .before .loop .inv .5) (omega arith)
 
 pub run-spec : {M : Type 1} → statement M
 run-spec =

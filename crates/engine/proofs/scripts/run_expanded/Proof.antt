@@ -1,30 +1,13 @@
 -- `engine::scripts::run_expanded` meets its contract: the value of the template that the script has. Assumes nothing.
-use mathlib.Core.Path.{sym, ap, _∙_}
+use mathlib.Core.Path.{sym, _∙_}
 use native.Mathlib.Omega.{arith}
 use lib.ListN.{length}
 use borrow.Author.Needs.{needs}
-use Rattle.card.specs.Row.{Card, lent}
 use Rattle.tlv.specs.Templates.{TemplateFits}
-use Rattle.engine.specs.declared.Answer.{Answer}
-use Rattle.engine.specs.Numbers.{Arguments}
-use Rattle.engine.specs.Calls.{gives}
-use Rattle.engine.proofs.Answers.{numbered-small}
+use Rattle.engine.proofs.Answers.{answers-number}
 use Rattle.engine.proofs.Ended.{definite-script, indefinite-script, no-template, known-lies}
 use Rattle.engine.proofs.scripts.run_expanded.Statement.{statement}
 use Rattle.engine.proofs.scripts.run_expanded.Tie as tie
-
-abbrev cardOf : tie.Start → Card
-cardOf s = lent (s .args .table .now) (s .args .files .now) (s .args .journal .now)
-
-abbrev argumentsOf : tie.Start → Arguments
-argumentsOf s =
-    record {
-      application = s .args .application;
-      domain = s .args .domain;
-      format = 1;
-      script = s .args .script .now;
-      response = s .args .response .now;
-    }
 
 template-of-requires : tie.Need-template-of-requires
 template-of-requires c κs = search needs
@@ -37,7 +20,7 @@ unfolding TemplateFits
 run-value-requires c κs =
     let s = c .before .before .before .before .before .before .before .before .before .before .before .before .before in
     let lies = known-lies (c .before .before .before .before .before .at .given .1) (length (s .args .script .now)) (c .before .before .before .before .before .before .before .template-of .ensures .1) in
-    (lies .0, lies .1, s .pre .0, s .pre .1, s .pre .2, s .pre .3, s .pre .4, s .pre .5)
+    (lies .0, lies .1, s .pre .0, s .pre .1, s .pre .2)
 
 enum-known-at-2 : tie.Need-enum-known-at-2
 enum-known-at-2 c = search needs
@@ -47,7 +30,7 @@ unfolding TemplateFits
 run-value-requires-2 c κs =
     let s = c .before .before .before .before .before .before .before .before .before .before .before .before .before in
     let lies = known-lies (c .before .before .before .before .before .at2 .given .1) (length (s .args .script .now)) (c .before .before .before .before .before .before .before .template-of .ensures .1) in
-    (lies .0, lies .1, s .pre .0, s .pre .1, s .pre .2, s .pre .3, s .pre .4, s .pre .5)
+    (lies .0, lies .1, s .pre .0, s .pre .1, s .pre .2)
 
 enum-told : tie.Need-enum-told
 enum-told c = search needs
@@ -69,10 +52,9 @@ same-length-4 c = search needs
 
 returns : tie.Need-returns
 returns c =
-    let s = c .before .before .before .before .before .before .before .before .before .before .before .before .before .before .before .before .before .before .before .before .before .before in
     let t = c .before .before .before .before .before .before .before .before .before .before .before .before .before .before .at .given in
     let v = c .before .before .before .before .before .before .before .before .run-value .ensures in
-    (v .0 ∙ definite-script (argumentsOf s) (cardOf s) _ _ (sym (c .before .before .before .before .before .before .before .before .before .before .before .before .before .before .before .before .template-of .ensures .0) ∙ t .1), v .1)
+    (v .0 ∙ definite-script _ _ _ _ (sym (c .before .before .before .before .before .before .before .before .before .before .before .before .before .before .before .before .template-of .ensures .0) ∙ t .1), v .1)
 
 same-length-5 : tie.Need-same-length-5
 same-length-5 c = search needs
@@ -88,18 +70,12 @@ same-length-8 c = search needs
 
 returns-2 : tie.Need-returns-2
 returns-2 c =
-    let s = c .before .before .before .before .before .before .before .before .before .before .before .before .before .before .before .before .before .before .before .before .before .before in
     let t = c .before .before .before .before .before .before .before .before .before .before .before .before .before .before .at2 .given in
     let v = c .before .before .before .before .before .before .before .before .run-value2 .ensures in
-    (v .0 ∙ indefinite-script (argumentsOf s) (cardOf s) _ _ (sym (c .before .before .before .before .before .before .before .before .before .before .before .before .before .before .before .before .template-of .ensures .0) ∙ t .1), v .1)
+    (v .0 ∙ indefinite-script _ _ _ _ (sym (c .before .before .before .before .before .before .before .before .before .before .before .before .before .before .before .before .template-of .ensures .0) ∙ t .1), v .1)
 
 returns-3 : tie.Need-returns-3
-returns-3 c =
-    let s = c .before .before .before .before .before .before .before .before .before in (
-      ap (λ (x : Answer). gives x (cardOf s) (s .args .response .now)) (c .numbered .ensures)
-          ∙ no-template (argumentsOf s) (cardOf s) (sym (c .before .before .before .template-of .ensures .0) ∙ c .before .enum-told .given .1),
-      numbered-small _ _ (c .numbered .ensures) (omega arith),
-    )
+returns-3 c = answers-number 0 (omega arith) (c .numbered .ensures) _ _ (no-template _ _ (sym (c .before .before .before .template-of .ensures .0) ∙ c .before .enum-told .given .1))
 
 pub run-expanded-spec : {M : Type 1} → statement M
 run-expanded-spec =

@@ -5,25 +5,10 @@ use native.Mathlib.Omega.{arith}
 use lib.ListN.{length-take}
 use lib.Seq.{length-take-le}
 use borrow.Author.Needs.{needs}
-use Rattle.card.specs.Row.{Card, lent}
 use Rattle.session.specs.Session.{startWaiting}
-use Rattle.engine.specs.Numbers.{Arguments}
 use Rattle.engine.proofs.Ended.{expanded-small, value-gives}
 use Rattle.engine.proofs.scripts.run_value.Statement.{statement}
 use Rattle.engine.proofs.scripts.run_value.Tie as tie
-
-abbrev cardOf : tie.Start → Card
-cardOf s = lent (s .args .table .now) (s .args .files .now) (s .args .journal .now)
-
-abbrev argumentsOf : tie.Start → Arguments
-argumentsOf s =
-    record {
-      application = s .args .application;
-      domain = s .args .domain;
-      format = 1;
-      script = s .args .script .now;
-      response = s .args .response .now;
-    }
 
 slice-aggregate-run : tie.Need-slice-aggregate-run
 slice-aggregate-run c = search needs
@@ -49,7 +34,7 @@ slice-aggregate-put-answer c =
 put-answer-requires : tie.Need-put-answer-requires
 put-answer-requires c κs =
     let r = c .before .before .before .before .before .before .before .before .before .before .before .before .run in (
-      omega (arith, c .before .before .before .before .before .before .before .before .before .before .before .before .before .before .before .before .before .before .before .before .before .before .before .pre .7),
+      omega (arith, c .before .before .before .before .before .before .before .before .before .before .before .before .before .before .before .before .before .before .before .before .before .before .before .pre .4),
       rw length-take (omega (arith, r .ensures .1)),
       r .ensures .2,
     )
@@ -68,11 +53,10 @@ same-length-4 c = search needs
 
 returns : tie.Need-returns
 returns c =
-    let s = c .before .before .before .before .before .before .before .before .before .before .before .before .before .before .before .before .before .before .before .before .before .before .before .before .before .before in
     let r = c .before .before .before .before .before .before .before .before .before .before .before .before .before .before .before .run in
     let p = c .before .before .put-answer .ensures in (
-      value-gives (s .args .definite) (s .args .at) (s .args .end) (argumentsOf s) (cardOf s) (r .result) _ _ _ _ _ (r .ensures .0) (p .0) (p .1),
-      expanded-small (s .args .definite) (r .result .step .count) _ (rw length-take (omega (arith, r .ensures .1))) (r .ensures .2) _ (p .1),
+      value-gives _ _ _ _ _ (r .result) _ _ _ _ _ (r .ensures .0) (p .0) (p .1),
+      expanded-small _ (r .result .step .count) _ (rw length-take (omega (arith, r .ensures .1))) (r .ensures .2) _ (p .1),
     )
 
 pub run-value-spec : {M : Type 1} → statement M

@@ -1,8 +1,9 @@
 -- `expanded::answer::put_definite` meets its contract: the answer's parts are written one behind another. Assumes nothing.
 use native.Mathlib.Omega.{arith}
-use Prim.Native.Nat.{_+_}
+use Prim.Native.Nat.{_+_, _≤_}
 use lib.ListN.{length}
 use borrow.Author.Needs.{needs}
+use Rattle.tlv.specs.Lengths.{lengthBytes}
 use Rattle.tlv.proofs.Written.{length-few}
 use Rattle.expanded.proofs.Written.{definite-written}
 use Rattle.expanded.proofs.answer.put_definite.Statement.{statement}
@@ -29,20 +30,24 @@ cast-t18 c = search needs
 slice-aggregate-copy : tie.Need-slice-aggregate-copy
 slice-aggregate-copy c = search needs
 
+-- the length of what stands behind the first length takes at most three bytes
+few : (k : tie.After-count-size) → length (lengthBytes (2 + (k .count-size .result + length (k .before .before .before .args .rapdus .now)))) ≤ 3
+few k = length-few (2 + (k .count-size .result + length (k .before .before .before .args .rapdus .now)))
+
 copy-requires : tie.Need-copy-requires
-copy-requires c κs = let few = length-few (2 + (c .before .before .before .before .before .before .before .before .before .before .count-size .result + length (c .before .before .before .before .before .before .before .before .before .before .before .before .before .args .rapdus .now))) in omega arith
+copy-requires c κs = omega (arith, few (c .before .before .before .before .before .before .before .before .before .before))
 
 add-put-count : tie.Need-add-put-count
-add-put-count c = let few = length-few (2 + (c .before .before .before .before .before .before .before .before .before .before .before .before .before .before .count-size .result + length (c .before .before .before .before .before .before .before .before .before .before .before .before .before .before .before .before .before .args .rapdus .now))) in omega arith
+add-put-count c = omega (arith, few (c .before .before .before .before .before .before .before .before .before .before .before .before .before .before))
 
 put-count-requires : tie.Need-put-count-requires
-put-count-requires c κs = let few = length-few (2 + (c .before .before .before .before .before .before .before .before .before .before .before .before .before .before .count-size .result + length (c .before .before .before .before .before .before .before .before .before .before .before .before .before .before .before .before .before .args .rapdus .now))) in omega arith
+put-count-requires c κs = omega (arith, few (c .before .before .before .before .before .before .before .before .before .before .before .before .before .before))
 
 copy-requires-2 : tie.Need-copy-requires-2
-copy-requires-2 c κs = let few = length-few (2 + (c .before .before .before .before .before .before .before .before .before .before .before .before .before .before .before .before .before .before .count-size .result + length (c .before .before .before .before .before .before .before .before .before .before .before .before .before .before .before .before .before .before .before .before .before .args .rapdus .now))) in omega arith
+copy-requires-2 c κs = omega (arith, few (c .before .before .before .before .before .before .before .before .before .before .before .before .before .before .before .before .before .before))
 
 add-result : tie.Need-add-result
-add-result c = let few = length-few (2 + (c .before .before .before .before .before .before .before .before .before .before .before .before .before .before .before .before .before .before .before .before .before .count-size .result + length (c .before .before .before .before .before .before .before .before .before .before .before .before .before .before .before .before .before .before .before .before .before .before .before .before .args .rapdus .now))) in omega arith
+add-result c = omega (arith, few (c .before .before .before .before .before .before .before .before .before .before .before .before .before .before .before .before .before .before .before .before .before))
 
 same-length : tie.Need-same-length
 same-length c = search needs
@@ -53,7 +58,7 @@ returns c =
     let n = c .before .before .before .before .before .before .before .before .before .before .before .before .before .before .before .before .before .before .before .before .before .count-size in
     let l = c .before .before .before .before .before .before .before .before .before .before .before .before .before .before .before .put-length in
     let k = c .before .before .before .before .before .before .put-count in
-    definite-written (s .args .response .now) (s .args .count) (s .args .rapdus .now) (s .pre .0) (s .pre .1) (n .ensures .0) (n .ensures .1)
+    definite-written (s .args .response .now) (s .args .count) (s .args .rapdus .now) (s .pre .0) (s .pre .1) (n .ensures .0)
     (c .before .before .before .before .before .before .before .before .before .before .before .before .before .before .before .before .before .before .before .fill .ensures) (l .ensures .0) (l .ensures .1) (c .before .before .before .before .before .before .before .before .before .before .copy .ensures) (k .ensures .0) (k .ensures .1) (c .before .before .copy2 .ensures)
 
 pub put-definite-spec : {M : Type 1} → statement M

@@ -2,8 +2,10 @@
 use mathlib.Core.Path.{_≡_, sym, ap, _∙_}
 use Prim.Native.Nat.{ℕ, _+_}
 use native.Mathlib.Omega.{arith}
+use lib.ListN.{length}
 use borrow.Author.Needs.{needs}
 use Rattle.octets.specs.Bytes.{overwrite}
+use Rattle.tlv.specs.Lengths.{lengthBytes}
 use Rattle.tlv.proofs.Written.{length-some}
 use Rattle.command.specs.Outcomes.{dataOf, dataCount}
 use Rattle.command.proofs.Outgoing.{data-length, data-few}
@@ -33,30 +35,28 @@ put-length-requires c κs =
     let some = length-some (dataCount (c .before .before .before .before .before .before .before .before .before .args .o) + 2) in
     (omega arith, omega arith)
 
+-- where the data begin
+from : (k : tie.After-put-length) → k .put-length .result ≡ k .before .before .before .before .before .before .before .before .before .before .args .at + 1 + length (lengthBytes (dataCount (k .before .before .before .before .before .before .before .before .before .before .args .o) + 2))
+from k =
+    let n : k .before .data-count .result ≡ dataCount (k .before .before .before .before .before .before .before .before .before .before .args .o) = k .before .data-count .ensures in
+    rw n at (k .put-length .ensures .1)
+
 put-data-requires : tie.Need-put-data-requires
 unfolding rapduSize
 put-data-requires c κs =
     let s = c .before .before .before .before .before .before .before .before .before .before .before .before .before in
-    let n : c .before .before .before .before .data-count .result ≡ dataCount (s .args .o) = c .before .before .before .before .data-count .ensures in
-    let from = rw n at (c .before .before .before .put-length .ensures .1) in
-    (s .pre .0, s .pre .1, omega arith)
+    (s .pre .0, s .pre .1, omega (arith, from (c .before .before .before)))
 
 word-of-requires : tie.Need-word-of-requires
 word-of-requires c κs = search needs
 
 put-num-requires : tie.Need-put-num-requires
 unfolding rapduSize
-put-num-requires c κs =
-    let n : c .before .before .before .before .before .before .before .before .before .data-count .result ≡ dataCount (c .before .before .before .before .before .before .before .before .before .before .before .before .before .before .before .before .before .before .args .o) = c .before .before .before .before .before .before .before .before .before .data-count .ensures in
-    let from = rw n at (c .before .before .before .before .before .before .before .before .put-length .ensures .1) in
-    omega arith
+put-num-requires c κs = omega (arith, from (c .before .before .before .before .before .before .before .before))
 
 add-result : tie.Need-add-result
 unfolding rapduSize
-add-result c =
-    let n : c .before .before .before .before .before .before .before .before .before .before .before .before .data-count .result ≡ dataCount (c .before .before .before .before .before .before .before .before .before .before .before .before .before .before .before .before .before .before .before .before .before .args .o) = c .before .before .before .before .before .before .before .before .before .before .before .before .data-count .ensures in
-    let from = rw n at (c .before .before .before .before .before .before .before .before .before .before .before .put-length .ensures .1) in
-    omega arith
+add-result c = omega (arith, from (c .before .before .before .before .before .before .before .before .before .before .before))
 
 same-length : tie.Need-same-length
 same-length c = search needs
@@ -70,7 +70,7 @@ returns c =
     let d = dataOf o (s .args .files .now) (s .args .waiting .now) in
     let n : c .before .before .before .before .before .before .before .before .before .before .before .before .data-count .result ≡ dataCount o = c .before .before .before .before .before .before .before .before .before .before .before .before .data-count .ensures in
     let h = rapdu-written m (s .args .at) d (c .before .before .before .word-of .result) (sym (data-length o (s .args .files .now) (s .args .waiting .now) (s .pre .0) (s .pre .1))) (s .pre .2)
-    (c .before .before .before .before .before .before .before .before .before .before .before .before .before .before .before .before .fill .ensures) (rw n at (l .put-length .ensures .0)) (rw n at (l .put-length .ensures .1)) (c .before .before .before .before .before .before .before .put-data .ensures .0) (c .before .before .before .before .before .before .before .put-data .ensures .1) (c .before .before .put-num .ensures) in
+    (c .before .before .before .before .before .before .before .before .before .before .before .before .before .before .before .before .fill .ensures) (rw n at (l .put-length .ensures .0)) (from l) (c .before .before .before .before .before .before .before .put-data .ensures .0) (c .before .before .before .before .before .before .before .put-data .ensures .1) (c .before .before .put-num .ensures) in
     (h .0 ∙ ap (λ (w : ℕ). overwrite m (s .args .at) (rapdu d w)) (c .before .before .before .word-of .ensures), h .1)
 
 pub put-rapdu-spec : {M : Type 1} → statement M

@@ -1,7 +1,6 @@
 -- `expanded::run::run` meets its contract: between two items what is left from here is the whole run. Assumes nothing.
 use mathlib.Core.Path.{_≡_, refl, sym, ap, _∙_}
-use mathlib.Core.List.{List}
-use Prim.Native.Nat.{ℕ, _-_}
+use Prim.Native.Nat.{_-_}
 use native.Mathlib.Omega.{arith}
 use lib.ListN.{length}
 use borrow.Author.Needs.{needs}
@@ -13,7 +12,6 @@ use Rattle.journal.proofs.Parts.{card-table}
 use Rattle.command.specs.declared.Outcome.the-variants.{Well}
 use Rattle.command.specs.Outcomes.{goesOn}
 use Rattle.command.specs.Commands.{started}
-use Rattle.expanded.specs.Expanded.{progressOf, stepCapdu}
 use Rattle.expanded.proofs.Going.{capdu-lies, bad-lies, Going, begins, ends, breaks, stops, goes}
 use Rattle.expanded.proofs.run.run.Statement.{statement}
 use Rattle.expanded.proofs.run.run.Tie as tie
@@ -34,8 +32,8 @@ abbrev μ-loop : tie.MeasureT-loop
 start-requires : tie.Need-start-requires Inv-loop μ-loop
 start-requires c κs =
     let s = c .before .before .before .before .before .before in
-    let few = few-entries (s .args .table .now) (s .args .files .now) (card-table (lent (s .args .table .now) (s .args .files .now) (s .args .journal .now)) (s .pre .3)) in
-    omega (arith, few, s .pre .5)
+    let few = few-entries (s .args .table .now) (s .args .files .now) (card-table (lent (s .args .table .now) (s .args .files .now) (s .args .journal .now)) (s .pre .3 .sound)) in
+    omega (arith, few, s .pre .3 .inside)
 
 loop-holds : tie.Need-loop-holds Inv-loop μ-loop
 unfolding started
@@ -48,9 +46,7 @@ loop-holds c =
       refl,
       refl,
       refl,
-      rw (p .8) (begins (s .args .script .now) (s .args .definite) (s .args .at) (s .args .end) (s .args .application) (s .args .domain) (lent (s .args .table .now) (s .args .files .now) (s .args .journal .now))
-          (p .0) (p .1) (p .3) (p .4) (p .5) (p .6) (s .args .out .now) _
-          (λ i. record { session = c .start .ensures i; outcome = Well 0x9000; count = 0 })),
+      rw (p .5) (begins (p .0) (p .1) (p .3) (λ i. record { session = c .start .ensures i; outcome = Well 0x9000; count = 0 })),
     )
 
 next-item-requires : tie.Need-next-item-requires Inv-loop μ-loop
@@ -64,7 +60,7 @@ capdu-requires c κs =
     let s = c .before .before .before .before .before .before .before .before .before .before .before .before in
     let i = c .before .before .before .next-item in
     let k = c .before .from .given in
-    omega (arith, capdu-lies (c .before .before .before .before .loop .place) (s .args .end) (k .0 .0) (k .0 .1 .0) (i .ensures .1) (k .1) .1, s .pre .1)
+    omega (arith, capdu-lies (i .ensures .1) (k .1) .1, s .pre .1)
 
 slice-aggregate-step-capdu : tie.Need-slice-aggregate-step-capdu Inv-loop μ-loop
 slice-aggregate-step-capdu c = sym (c .before .before .before .before .before .before .before .loop .inv .5)
@@ -75,13 +71,13 @@ step-capdu-requires c κs =
     let l = c .before .before .before .before .before .before .before .before .before .before .before .loop in
     let g = l .inv .6 in
     let k = c .before .before .before .before .before .before .before .before .from .given in
-    let h = capdu-lies (l .place) (s .args .end) (k .0 .0) (k .0 .1 .0) (c .before .before .before .before .before .before .before .before .before .before .next-item .ensures .1) (k .1) in (
+    let h = capdu-lies (c .before .before .before .before .before .before .before .before .before .before .next-item .ensures .1) (k .1) in (
       omega (arith, ap length (c .before .before .before .before .before .before .capdu .ensures), part-length (s .args .script .now) (k .0 .0) (k .0 .1 .0) (omega (arith, h .1, s .pre .1)), h .2),
       g .holds .sound,
       g .holds .good,
       omega (arith, g .counted, g .inside, s .pre .1, s .pre .2),
       g .kept,
-      l .inv .0 ∙ s .pre .7,
+      l .inv .0 ∙ s .pre .4,
       l .inv .5,
       g .holds .waiting,
     )
@@ -114,9 +110,8 @@ returns c =
     let i = c .before .before .before .before .before .before .before .before .before .before .before .before .before .before .before .before .before .before .before .before .before .before .before .before .before .before .next-item in
     let k = c .before .before .before .before .before .before .before .before .before .before .before .before .before .before .before .before .before .before .before .before .before .before .before .before .from .given in
     let done = c .before .before .before .before .before .before .before .before .before .before .before .before .before .before .before .step-capdu in
-    let d = stops (s .args .script .now) (s .args .definite) (s .args .at) (s .args .end) (s .args .application) (s .args .domain) (lent (s .args .table .now) (s .args .files .now) (s .args .journal .now)) (l .waiting) (lent (l .table) (l .files) (l .journal)) (l .out) (l .g) (l .place) (l .inv .6)
-    (i .result) (i .ensures .0) (i .ensures .1) (done .result) _ _ _ (done .ensures .1) (k .0 .0) (k .0 .1 .0) (k .1)
-    (done .ensures .0 ∙ ap (λ (x : List ℕ). stepCapdu (s .args .definite) (s .args .domain) x (progressOf (l .g) (l .waiting) (lent (l .table) (l .files) (l .journal)) (l .out))) (c .before .before .before .before .before .before .before .before .before .before .before .before .before .before .before .before .before .before .before .before .before .before .capdu .ensures))
+    let d = stops (l .inv .6) (i .ensures .0) (i .ensures .1) (done .result) _ _ _ (done .ensures .1) (k .1)
+    _ (c .before .before .before .before .before .before .before .before .before .before .before .before .before .before .before .before .before .before .before .before .before .before .capdu .ensures) (done .ensures .0)
     (sym (ap goesOn (c .before .before .word-of .ensures)) ∙ sym (c .before .goes-on .ensures) ∙ not-true (c .before .goes-on .result) (c .if1 .taken)) in
     (d .0, d .1, omega (arith, d .2, s .pre .1, s .pre .2))
 
@@ -124,12 +119,12 @@ add-place : tie.Need-add-place Inv-loop μ-loop
 add-place c =
     let s = c .before .before .before .before .before .before .before .before .before .before .before .before .before .before .before .before .before .before .before .before .before .before .before .before .before .before .before .before .before .before .before .before .before .before .before in
     let k = c .before .before .before .before .before .before .before .before .before .before .before .before .before .before .before .before .before .before .before .before .before .before .before .before .from .given in
-    omega (arith, capdu-lies (c .before .before .before .before .before .before .before .before .before .before .before .before .before .before .before .before .before .before .before .before .before .before .before .before .before .before .before .loop .place) (s .args .end) (k .0 .0) (k .0 .1 .0) (c .before .before .before .before .before .before .before .before .before .before .before .before .before .before .before .before .before .before .before .before .before .before .before .before .before .before .next-item .ensures .1) (k .1) .1, s .pre .1, s .pre .2)
+    omega (arith, capdu-lies (c .before .before .before .before .before .before .before .before .before .before .before .before .before .before .before .before .before .before .before .before .before .before .before .before .before .before .next-item .ensures .1) (k .1) .1, s .pre .1, s .pre .2)
 
 loop-less : tie.Need-loop-less Inv-loop μ-loop
 loop-less c =
     let k = c .before .before .before .before .before .before .before .before .before .before .before .before .before .before .before .before .before .before .before .before .before .before .before .before .from .given in
-    let h = capdu-lies (c .before .before .before .before .before .before .before .before .before .before .before .before .before .before .before .before .before .before .before .before .before .before .before .before .before .before .before .loop .place) (c .before .before .before .before .before .before .before .before .before .before .before .before .before .before .before .before .before .before .before .before .before .before .before .before .before .before .before .before .before .before .before .before .before .before .before .args .end) (k .0 .0) (k .0 .1 .0) (c .before .before .before .before .before .before .before .before .before .before .before .before .before .before .before .before .before .before .before .before .before .before .before .before .before .before .next-item .ensures .1) (k .1) in
+    let h = capdu-lies (c .before .before .before .before .before .before .before .before .before .before .before .before .before .before .before .before .before .before .before .before .before .before .before .before .before .before .next-item .ensures .1) (k .1) in
     omega (arith, h .0, h .1)
 
 loop-again : tie.Need-loop-again Inv-loop μ-loop
@@ -146,9 +141,8 @@ loop-again c =
       omega (arith, done .kept, l .inv .3),
       omega (arith, done .kept, l .inv .4),
       omega (arith, done .kept, l .inv .5),
-      goes (s .args .script .now) (s .args .definite) (s .args .at) (s .args .end) (s .args .application) (s .args .domain) (lent (s .args .table .now) (s .args .files .now) (s .args .journal .now)) (l .waiting) (lent (l .table) (l .files) (l .journal)) (l .out) (l .g) (l .place) (l .inv .6)
-          (i .result) (i .ensures .0) (i .ensures .1) (done .result) _ _ _ (done .ensures .1) (k .0 .0) (k .0 .1 .0) (k .1)
-          (done .ensures .0 ∙ ap (λ (x : List ℕ). stepCapdu (s .args .definite) (s .args .domain) x (progressOf (l .g) (l .waiting) (lent (l .table) (l .files) (l .journal)) (l .out))) (c .before .before .before .before .before .before .before .before .before .before .before .before .before .before .before .before .before .before .before .before .before .before .capdu .ensures))
+      goes (l .inv .6) (i .ensures .0) (i .ensures .1) (done .result) _ _ _ (done .ensures .1) (k .1)
+          _ (c .before .before .before .before .before .before .before .before .before .before .before .before .before .before .before .before .before .before .before .before .before .before .capdu .ensures) (done .ensures .0)
           (λ j. c .before .before .before .before .before .before .before .before .before .before .before .before .before .before .before .before .before .before .before .before .before .before .before .before .before .before .before .before .before .before .before .before .before .before .shared-slice-known .given j .fits) (done .ensures .2 on) on,
     )
 
@@ -161,7 +155,7 @@ step-bad-requires c κs =
     let l = c .before .before .before .before .before .loop in
     let g = l .inv .6 in
     let k = c .before .before .code .given in
-    (bad-lies (l .place) (s .args .end) (k .0 .0) (c .before .before .before .before .next-item .ensures .1) (k .1) .1, omega (arith, g .counted, g .inside, s .pre .1, s .pre .2), g .kept, l .inv .0 ∙ s .pre .7)
+    (bad-lies (c .before .before .before .before .next-item .ensures .1) (k .1) .1, omega (arith, g .counted, g .inside, s .pre .1, s .pre .2), g .kept, l .inv .0 ∙ s .pre .4)
 
 same-length-6 : tie.Need-same-length-6 Inv-loop μ-loop
 same-length-6 c = omega arith
@@ -185,8 +179,7 @@ returns-2 c =
     let i = c .before .before .before .before .before .before .before .next-item in
     let k = c .before .before .before .before .before .code .given in
     let done = c .before .before .step-bad in
-    let d = breaks (s .args .script .now) (s .args .definite) (s .args .at) (s .args .end) (s .args .application) (s .args .domain) (lent (s .args .table .now) (s .args .files .now) (s .args .journal .now)) (l .waiting) (lent (l .table) (l .files) (l .journal)) (l .out) (l .g) (l .place) (l .inv .6)
-    (i .result) (i .ensures .0) (i .ensures .1) (done .result) (l .waiting) (lent (l .table) (l .files) (l .journal)) _ (done .ensures .1) (k .0 .0) (k .1) (done .ensures .0 (l .waiting) (lent (l .table) (l .files) (l .journal))) in
+    let d = breaks (l .inv .6) (i .ensures .0) (i .ensures .1) (done .result) _ _ _ (done .ensures .1) (k .1) (done .ensures .0 (l .waiting) (lent (l .table) (l .files) (l .journal))) in
     (d .0, d .1, omega (arith, d .2, s .pre .1, s .pre .2))
 
 enum-told : tie.Need-enum-told Inv-loop μ-loop
@@ -212,8 +205,7 @@ returns-3 c =
     let s = c .before .before .before .before .before .before .before .before .before .before .before in
     let l = c .before .before .before .loop in
     let i = c .before .before .next-item in
-    let d = ends (s .args .script .now) (s .args .definite) (s .args .at) (s .args .end) (s .args .application) (s .args .domain) (lent (s .args .table .now) (s .args .files .now) (s .args .journal .now)) (l .waiting) (lent (l .table) (l .files) (l .journal)) (l .out) (l .g) (l .place) (l .inv .6)
-    (i .result) (i .ensures .0) (i .ensures .1) (c .enum-told .given .1) in
+    let d = ends (l .inv .6) (i .ensures .0) (i .ensures .1) (c .enum-told .given .1) in
     (d .0, d .1, omega (arith, d .2, s .pre .1, s .pre .2))
 
 pub run-spec : {M : Type 1} → statement M
