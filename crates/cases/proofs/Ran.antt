@@ -1,22 +1,15 @@
--- A run on the memories of the worked card is a run on that card, and what is put of it is its line. Assumes nothing.
+-- What is put of a run is its line, and the line of a case is that of its run. Assumes nothing.
 use mathlib.Core.Path.{_≡_, refl, ap, _∙_}
 use mathlib.Core.List.{List, [], _∷_}
 use Prim.Native.Nat.{ℕ, zero, suc, _+_, min}
 use native.Mathlib.Nat.{zero-min, min-zero, suc-min-suc}
 use lib.ListN.{length, take}
 use Rattle.octets.specs.Bytes.{overwrite, zeros}
-use Rattle.card.specs.Row.{lent}
 use Rattle.journal.specs.Entries.{usedBytes}
-use Rattle.journal.specs.Changes.{withJournal}
-use Rattle.engine.specs.Calls.{Result, run}
-use Rattle.engine.specs.Worked.{worked, answerOf}
+use Rattle.engine.specs.Calls.{Result}
+use Rattle.engine.specs.Worked.{answerOf}
 use Rattle.lines.specs.Digits.{decoded}
 use Rattle.cases.specs.Cases.{ranOn, headAndUsed, labelled, runLine, caseLine}
-
--- a run on memories that are those of the worked card
-pub ran : (application domain format : ℕ) (script t f journal : List ℕ) (r : Result) → t ≡ worked .table → f ≡ worked .files → r ≡ run (record { application = application; domain = domain; format = format; script = script; response = zeros 1024 }) (lent t f journal) → r ≡ ranOn application domain format journal script
-unfolding ranOn withJournal
-ran application domain format script t f journal r e g h = rw (e, g) at h
 
 -- so many elements, or all where there are fewer
 take-min : (n : ℕ) (l : List ℕ) → take (min n (length l)) l ≡ take n l

@@ -1,7 +1,6 @@
 -- The bound on the commands that are read is no limit: each command, and each piece of a template, takes a byte or more. Assumes nothing.
 use Prim.Native.Nat.{ℕ, zero, suc, _+_, _≤_, _<_}
 use mathlib.Core.Path.{_≡_, refl, sym, ap}
-use mathlib.Core.Bool.{Bool, true, false}
 use mathlib.Core.List.{List, [], _∷_}
 use native.Mathlib.Omega.{arith}
 use lib.Dec.{ltb}
@@ -11,21 +10,18 @@ use Rattle.octets.specs.Bytes.{byte, part}
 use Rattle.octets.proofs.Picks.{pick-false, on-pick}
 use Rattle.tlv.specs.declared.template.Template.{Template}
 use Rattle.tlv.specs.declared.template.Template.the-variants.{Definite, Indefinite, Missing}
-use Rattle.tlv.specs.declared.template.Item.{Item}
-use Rattle.tlv.specs.declared.template.Item.the-variants.{Capdu, Bad, End}
+use Rattle.tlv.specs.declared.template.Item.the-variants.{End}
 use Rattle.tlv.specs.Templates.{templateOf, TemplateFits, itemAt, ItemFits}
 use Rattle.tlv.proofs.Fits.{template-told, item-told}
 use Rattle.command.specs.declared.Reading.{Reading}
 use Rattle.compact.specs.Compact.{broken, wholeAt, headedAt, readAt, placeAfter}
 use Rattle.demands.specs.Commands.{Read, readIn, commandsFrom, commandsOf, Piece, capdu, piecesFrom, piecesIn, piecesOf}
+use Rattle.demands.proofs.Commands.{by-test, by-item}
 
 -- ---- compact
 
-same-test : {A : Type 0} (b : Bool) (x y z : A) → (b ≡ true → x ≡ y) → _≡_ {A = A} (elim b [ true ↦ x | false ↦ z ]) (elim b [ true ↦ y | false ↦ z ])
-same-test true x y z h = h refl
-same-test false x y z h = refl
-
 module _ (script : List ℕ) where
+  -- a command takes a byte or more
   further : (at : ℕ) → at < length script → at < placeAfter (readAt script at)
   unfolding readAt headedAt wholeAt broken placeAfter
   further at h =
@@ -38,28 +34,23 @@ module _ (script : List ℕ) where
   none-left zero at h = refl
   none-left (suc n) at h = rw (le-ltb at (length script) h, commandsFrom)
 
+  -- two bounds that are enough for what is left read the same
   enough : (n m at : ℕ) → length script ≤ at + n → length script ≤ at + m → commandsFrom n script at ≡ commandsFrom m script at
   unfolding commandsFrom
   enough zero m at h g = sym (none-left m at (omega arith))
   enough (suc n) zero at h g = none-left (suc n) at (omega arith)
   enough (suc n) (suc m) at h g =
-      same-test (ltb at (length script)) _ _ []
+      by-test (λ (rs : List Read). rs) (ltb at (length script)) _ [] _ []
       (λ more.
       let f = further at (ltb-true at (length script) more) in
       ap (λ (rs : List Read). readIn script (readAt script at) ∷ rs) (enough n m (placeAfter (readAt script at)) (omega arith) (omega arith)))
+      (λ _. refl)
 
 pub all-commands : (script : List ℕ) (n : ℕ) → length script ≤ n → commandsFrom n script 0 ≡ commandsOf script
 unfolding commandsOf
 all-commands script n h = enough script n (length script) 0 (omega arith) (omega arith)
 
 -- ---- expanded
-
-same-item : {A : Type 0} (at end : ℕ) (item : Item) (x y : ℕ → ℕ → A) (z : ℕ → A) (w : A) → ItemFits at end item → ((from size : ℕ) → at < from → x from size ≡ y from size)
-    → _≡_ {A = A} (elim item [ Capdu from size ↦ x from size | Bad code ↦ z code | End ↦ w ]) (elim item [ Capdu from size ↦ y from size | Bad code ↦ z code | End ↦ w ])
-unfolding ItemFits
-same-item at end (Capdu from size) x y z w fits h = h from size (fits .0)
-same-item at end (Bad code) x y z w fits h = refl
-same-item at end End x y z w fits h = refl
 
 module _ (script : List ℕ) (small : (i : ℕ) → byte script i < 256) where
   module _ (end : ℕ) where
@@ -73,12 +64,16 @@ module _ (script : List ℕ) (small : (i : ℕ) → byte script i < 256) where
     no-pieces (suc n) at h = rw (no-item at h, piecesFrom)
 
     enough-pieces : (n m at : ℕ) → end ≤ at + n → end ≤ at + m → piecesFrom n script at end ≡ piecesFrom m script at end
-    unfolding piecesFrom
+    unfolding piecesFrom ItemFits
     enough-pieces zero m at h g = sym (no-pieces m at (omega arith))
     enough-pieces (suc n) zero at h g = no-pieces (suc n) at (omega arith)
     enough-pieces (suc n) (suc m) at h g =
-        same-item at end (itemAt script at end) _ _ _ [] (item-told script small at end refl .1)
-        (λ from size f. ap (λ (ps : List Piece). capdu (part script from size) ∷ ps) (enough-pieces n m (from + size) (omega arith) (omega arith)))
+        by-item (λ (ps : List Piece). ps) (itemAt script at end) _ _ [] _ _ []
+        (λ from size e.
+        let f = item-told script small at end (sym e) .1 .0 in
+        ap (λ (ps : List Piece). capdu (part script from size) ∷ ps) (enough-pieces n m (from + size) (omega arith) (omega arith)))
+        (λ code. refl)
+        refl
 
   template-pieces : (n : ℕ) → length script ≤ n → (t : Template) → TemplateFits (length script) t → piecesIn n t script ≡ piecesIn (length script) t script
   unfolding piecesIn TemplateFits

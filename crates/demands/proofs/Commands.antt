@@ -22,6 +22,18 @@ use Rattle.expanded.specs.Expanded.{Progress, begun, answered, stepCapdu, stepB
 use Rattle.demands.specs.Commands.{after, lastOf, Read, readIn, commandsFrom, commandsOf, commandDone, wordGoesOn, statesAfter, Piece, capdu, badFormat, piecesFrom, piecesIn, piecesOf, isDefinite, pieceDone, pieceGoesOn, progressAfter}
 use Rattle.demands.specs.Demand2.{CompactRuns, ExpandedRuns}
 
+-- two choices by one test, and by one item of a template, agree where each of their ways does
+pub by-test : {A B : Type 0} (f : B → A) (b : Bool) (x y : A) (u v : B) → (b ≡ true → x ≡ f u) → (b ≡ false → y ≡ f v) → elim b [ true ↦ x | false ↦ y ] ≡ f (elim b [ true ↦ u | false ↦ v ])
+by-test f true x y u v h g = h refl
+by-test f false x y u v h g = g refl
+
+pub by-item : {A B : Type 0} (f : B → A) (item : Item) (x : ℕ → ℕ → A) (y : ℕ → A) (z : A) (u : ℕ → ℕ → B) (v : ℕ → B) (w : B)
+    → ((from size : ℕ) → item ≡ Capdu from size → x from size ≡ f (u from size)) → ((code : ℕ) → y code ≡ f (v code)) → z ≡ f w
+    → elim item [ Capdu from size ↦ x from size | Bad code ↦ y code | End ↦ z ] ≡ f (elim item [ Capdu from size ↦ u from size | Bad code ↦ v code | End ↦ w ])
+by-item f (Capdu from size) x y z u v w h g l = h from size refl
+by-item f (Bad code) x y z u v w h g l = g code
+by-item f End x y z u v w h g l = l
+
 module _ {S R : Type 0} (does : S → R → S) (on : S → Bool) where
   abbrev ends : S → List R → S
   ends s rs = lastOf s (after does on s rs)
@@ -29,40 +41,28 @@ module _ {S R : Type 0} (does : S → R → S) (on : S → Bool) where
   -- one command more, with what comes of it where it goes on
   one-more : (s : S) (r : R) (rs : List R) (x : S) → x ≡ ends (does s r) rs → elim (on (does s r)) [ true ↦ x | false ↦ does s r ] ≡ ends s (r ∷ rs)
   unfolding lastOf after
-  one-more s r rs x e = go (on (does s r))
-    where
-      go : (b : Bool) → elim b [ true ↦ x | false ↦ does s r ] ≡ lastOf (does s r) (elim b [ true ↦ after does on (does s r) rs | false ↦ [] ])
-      go true = e
-      go false = refl
+  one-more s r rs x e = by-test (lastOf (does s r)) (on (does s r)) x (does s r) (after does on (does s r) rs) [] (λ _. e) (λ _. refl)
 
-  -- a command that stops
-  pub one-only : (s : S) (r : R) (rs : List R) → on (does s r) ≡ false → ends s (r ∷ rs) ≡ does s r
+  -- a first command that stops
+  pub one-only : (s : S) (l : List R) (r : R) (rs : List R) → l ≡ r ∷ rs → on (does s r) ≡ false → ends s l ≡ does s r
   unfolding lastOf after
-  one-only s r rs e = rw e
+  one-only s l r rs first e = rw (first, e)
 
   -- a last command
   one-last : (s : S) (r : R) → does s r ≡ ends s (r ∷ [])
   unfolding lastOf after
-  one-last s r = on-test (λ (l : List S). does s r ≡ lastOf (does s r) l) (on (does s r)) [] [] (λ y. refl) (λ n. refl)
+  one-last s r = on-test (λ (l : List S). does s r ≡ lastOf (does s r) l) (on (does s r)) [] [] (λ _. refl) (λ _. refl)
 
   -- where each command counts one, the last state counts all that ran
   module _ (count : S → ℕ) (one : (s : S) (r : R) → count (does s r) ≡ count s + 1) where
-    first-counted : (s : S) (r : R) (rest : List S) (b : Bool) → count (lastOf (does s r) rest) ≡ count (does s r) + length rest
-        → count (lastOf (does s r) (elim b [ true ↦ rest | false ↦ [] ])) ≡ count s + length {A = S} (does s r ∷ elim b [ true ↦ rest | false ↦ [] ])
-    unfolding lastOf
-    first-counted s r rest true e = let o = one s r in omega arith
-    first-counted s r rest false e = let o = one s r in omega arith
-
     counted : (s : S) (rs : List R) → count (ends s rs) ≡ count s + length (after does on s rs)
     unfolding lastOf after
     counted s [] = omega arith
-    counted s (r ∷ rs) = first-counted s r (after does on (does s r) rs) (on (does s r)) (counted (does s r) rs)
+    counted s (r ∷ rs) =
+        on-test (λ (l : List S). count (lastOf (does s r) l) ≡ count s + length {A = S} (does s r ∷ l)) (on (does s r)) _ _
+        (λ _. omega (arith, one s r, counted (does s r) rs)) (λ _. omega (arith, one s r))
 
 -- ---- compact
-
-by-test : {A B : Type 0} (f : B → A) (b : Bool) (x y : A) (u v : B) → x ≡ f u → y ≡ f v → elim b [ true ↦ x | false ↦ y ] ≡ f (elim b [ true ↦ u | false ↦ v ])
-by-test f true x y u v h g = h
-by-test f false x y u v h g = g
 
 module _ (script : List ℕ) (domain : ℕ) where
   run-ends : (n at : ℕ) (st : State) → compact.runFrom n script domain at st ≡ ends (commandDone domain) wordGoesOn st (commandsFrom n script at)
@@ -70,8 +70,8 @@ module _ (script : List ℕ) (domain : ℕ) where
   run-ends zero at st = refl
   run-ends (suc n) at st =
       by-test (ends (commandDone domain) wordGoesOn st) (ltb at (length script)) _ st _ []
-      (one-more (commandDone domain) wordGoesOn st (readIn script (readAt script at)) (commandsFrom n script (placeAfter (readAt script at))) _ (run-ends n (placeAfter (readAt script at)) (stepAt script domain at st)))
-      refl
+      (λ _. one-more (commandDone domain) wordGoesOn st (readIn script (readAt script at)) (commandsFrom n script (placeAfter (readAt script at))) _ (run-ends n (placeAfter (readAt script at)) (stepAt script domain at st)))
+      (λ _. refl)
 
 command-counts : (domain : ℕ) (st : State) (r : Read) → commandDone domain st r .step .count ≡ st .step .count + 1
 unfolding commandDone stepped
@@ -86,20 +86,13 @@ compact-runs script application domain card =
 
 -- ---- expanded
 
-by-item : {A B : Type 0} (f : B → A) (item : Item) (x : ℕ → ℕ → A) (y : ℕ → A) (z : A) (u : ℕ → ℕ → B) (v : ℕ → B) (w : B)
-    → ((from size : ℕ) → x from size ≡ f (u from size)) → ((code : ℕ) → y code ≡ f (v code)) → z ≡ f w
-    → elim item [ Capdu from size ↦ x from size | Bad code ↦ y code | End ↦ z ] ≡ f (elim item [ Capdu from size ↦ u from size | Bad code ↦ v code | End ↦ w ])
-by-item f (Capdu from size) x y z u v w h g l = h from size
-by-item f (Bad code) x y z u v w h g l = g code
-by-item f End x y z u v w h g l = l
-
 module _ (script : List ℕ) (domain : ℕ) (definite : Bool) (end : ℕ) where
   pieces-end : (n at : ℕ) (p : Progress) → expanded.runFrom n script domain definite at end p ≡ ends (pieceDone definite domain) pieceGoesOn p (piecesFrom n script at end)
   unfolding expanded.runFrom piecesFrom lastOf after pieceDone pieceGoesOn wordGoesOn
   pieces-end zero at p = refl
   pieces-end (suc n) at p =
       by-item (ends (pieceDone definite domain) pieceGoesOn p) (itemAt script at end) _ _ p _ _ []
-      (λ from size. one-more (pieceDone definite domain) pieceGoesOn p (capdu (part script from size)) (piecesFrom n script (from + size) end) _ (pieces-end n (from + size) (stepCapdu definite domain (part script from size) p)))
+      (λ from size _. one-more (pieceDone definite domain) pieceGoesOn p (capdu (part script from size)) (piecesFrom n script (from + size) end) _ (pieces-end n (from + size) (stepCapdu definite domain (part script from size) p)))
       (λ code. one-last (pieceDone definite domain) pieceGoesOn p (badFormat code))
       refl
 

@@ -12,11 +12,11 @@ use Rattle.octets.specs.Choice.{pick}
 use Rattle.card.specs.Row.{Card}
 use Rattle.journal.specs.Entries.{scriptsOnTrial}
 use Rattle.journal.specs.Sound.{soundCard}
-use Rattle.engine.specs.Numbers.{Arguments, formatOf, argumentsFit, scriptFits, leastResponse, markFits, templateFits, firstGiven, notSound, runRefusals, takeBackRefusals, confirmRefusals}
+use Rattle.engine.specs.Numbers.{Arguments, formatOf, argumentsFit, scriptFits, leastResponse, markFits, templateFits, firstGiven, notSound, takeBackRefusals, confirmRefusals}
 use Rattle.demands.specs.Given.{running, takingBack, confirming, given, number}
 use Rattle.demands.specs.Demand1.{RunNumber, TakeBackNumber, ConfirmNumber, Demand1}
 use Rattle.engine.proofs.Accepted.{firstOf}
-use Rattle.demands.proofs.LawsRefused.{refused, run-number, back-number, confirm-number}
+use Rattle.demands.proofs.LawsRefused.{refused, run-tested, back-number, confirm-number}
 
 -- the numbers of a run over plain tests: `long` bytes of response memory, of which it needs `least`
 module _ (s a f : Bool) (long least : ℕ) (m t : Bool) where
@@ -79,8 +79,8 @@ module _ (a : Arguments) (c : Card) where
   framed = templateFits (formatOf (a .format)) (a .script)
 
   is-first : number (given (running a) c) ≡ firstOf (soundCard c) fits short (ltb long least) room framed
-  unfolding given runRefusals notSound firstGiven
-  is-first = run-number a c
+  unfolding given
+  is-first = run-tested a c
 
   is-met : (n : ℕ) → number (given (running a) c) ≡ n ↔ Met (soundCard c) fits short long least room framed n
   is-met n = (

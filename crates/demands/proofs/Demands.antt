@@ -4,7 +4,7 @@ use Rattle.demands.specs.Demand2.{Demand2}
 use Rattle.demands.specs.Demand3.{Demand3}
 use Rattle.demands.proofs.Demand1 as one
 use Rattle.demands.proofs.Demand2 as two
-use Rattle.demands.proofs.Laws as three
+use Rattle.demands.proofs.Demand3 as three
 use Rattle.engine.proofs.run.Statement as run
 use Rattle.engine.proofs.run.Met as run-proof
 use Rattle.engine.proofs.take_back.Statement as take-back

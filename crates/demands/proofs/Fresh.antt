@@ -1,10 +1,8 @@
 -- A script starts afresh: a first command that works on a file finds none, ends with 6986, and changes nothing. Assumes nothing.
 use Prim.Native.Nat.{ℕ}
-use mathlib.Core.Path.{_≡_, refl, ap, _∙_}
+use mathlib.Core.Path.{_≡_, refl, sym, ap, _∙_}
 use mathlib.Core.Bool.{Bool, true, false}
 use mathlib.Core.List.{List, [], _∷_, _++_}
-use mathlib.Core.Option.{none}
-use native.Mathlib.Omega.{arith}
 use borrow.Author.Tests.{ne-eqb}
 use Rattle.octets.specs.Choice.{pick}
 use Rattle.octets.specs.Bytes.{bytes2}
@@ -19,8 +17,9 @@ use Rattle.command.specs.declared.Format.the-variants.{Compact, Expanded}
 use Rattle.command.specs.Instructions as ins
 use Rattle.command.specs.Outcomes.{Plan, failed, dataOf}
 use Rattle.command.specs.Plans.{Situation}
-use Rattle.command.specs.Checks.{Check, formalChecks, boundChecks, fileChecks, laterChecks, order, checkWord, holds, firstFailing}
+use Rattle.command.specs.Checks.{formalChecks, boundChecks, fileChecks, laterChecks, order, checkWord, holds, firstFailing, failWord}
 use Rattle.command.specs.Commands.{State, started, stepped, situation, carriedOut, decided, planned}
+use Rattle.decide.proofs.Plans.{first-behind, formal-none}
 use Rattle.compact.specs.Compact as compact
 use Rattle.expanded.specs.Capdu.{capduCommand}
 use Rattle.expanded.specs.Expanded as expanded
@@ -30,27 +29,16 @@ use Rattle.engine.specs.Numbers.{Arguments, formatOf}
 use Rattle.engine.specs.Calls.{accepted, runScript}
 use Rattle.demands.specs.Given.{running, given, number}
 use Rattle.engine.specs.Hex.{digit, hex}
-use Rattle.demands.specs.Commands.{after, lastOf, Read, readIn, commandsOf, commandDone, wordGoesOn, statesAfter, Piece, capdu, piecesOf, isDefinite, pieceDone, pieceGoesOn, progressAfter}
+use Rattle.demands.specs.Commands.{Read, readIn, commandsOf, commandDone, wordGoesOn, statesAfter, Piece, capdu, piecesOf, isDefinite, pieceDone, pieceGoesOn, progressAfter}
 use Rattle.demands.specs.Demand2.{withMark, WorksOnFile, firstSituation, oneCommand, noFile, Fresh}
 use Rattle.demands.proofs.LawsRefused.{run-done}
 use Rattle.demands.proofs.Commands.{one-only, compact-runs, expanded-runs}
 
--- checks of which none fails are passed
-passed-at : (b : Bool) (w : Situation) (k : Check) (ks ls : List Check) → holds w k ≡ b → firstFailing w (k ∷ ks) ≡ none
-    → (firstFailing w ks ≡ none → firstFailing w (ks ++ ls) ≡ firstFailing w ls) → firstFailing w ((k ∷ ks) ++ ls) ≡ firstFailing w ls
-unfolding firstFailing pick
-passed-at true w k ks ls e h rest = rw (e, pick) (rest (rw (e, pick) at h))
-passed-at false w k ks ls e h rest = absurd (let g = rw (e, pick) at h in let z : _≡_ {A = ℕ} 0 1 = cc in omega arith)
-
-passed : (w : Situation) (ks ls : List Check) → firstFailing w ks ≡ none → firstFailing w (ks ++ ls) ≡ firstFailing w ls
-passed w [] ls h = refl
-passed w (k ∷ ks) ls h = passed-at (holds w k) w k ks ls refl h (passed w ks ls)
-
 -- no file is current
 no-file : (w : Situation) → WorksOnFile w → w .session .file ≡ 0 → planned w ≡ failed (w .session) 0x6986
-unfolding planned decided order laterChecks fileChecks boundChecks firstFailing holds checkWord pick
+unfolding planned decided order laterChecks fileChecks boundChecks firstFailing failWord holds checkWord pick
 no-file w h z =
-    ap (decided w) (passed w formalChecks (laterChecks (w .command .instruction)) (h .formal))
+    ap (decided w) (first-behind w formalChecks (laterChecks (w .command .instruction)) (formal-none w (ap failWord (sym (h .formal)))))
     ∙ rw (ne-eqb (w .command .instruction) ins.select (h .notSelect), ne-eqb (w .command .instruction) ins.getResponse (h .notGetResponse), z)
 
 -- the state of a script that was stopped so
@@ -72,8 +60,7 @@ module _ (script : List ℕ) (application domain : ℕ) (card : Card) (r : Read)
   unfolding statesAfter wordGoesOn stopped stepped carriedOut failed
   compact-stops =
       compact-runs script application domain card .state
-      ∙ ap (λ (l : List Read). lastOf (started application card) (after (commandDone domain) wordGoesOn (started application card) l)) first
-      ∙ one-only (commandDone domain) wordGoesOn (started application card) r rs (ap wordGoesOn command-fails)
+      ∙ one-only (commandDone domain) wordGoesOn (started application card) (commandsOf script) r rs first (ap wordGoesOn command-fails)
       ∙ command-fails
 
 compact-fresh : (a : Arguments) (c : Card) (r : Read) (rs : List Read) → number (given (running a) c) ≡ 0 → a .format ≡ 0 → commandsOf (a .script) ≡ r ∷ rs
@@ -132,8 +119,7 @@ expanded-fresh a c bytes pieces ok f first works =
     let fails = piece-fails (isDefinite t) (a .domain) (a .application) (withMark c) bytes works in
     let whole : expanded.run t (a .script) (a .application) (a .domain) (withMark c) ≡ p =
     expanded-runs t (a .script) (a .application) (a .domain) (withMark c) .progress
-    ∙ ap (λ (l : List Piece). lastOf (begun (a .application) (withMark c)) (after (pieceDone (isDefinite t) (a .domain)) pieceGoesOn (begun (a .application) (withMark c)) l)) first
-    ∙ one-only (pieceDone (isDefinite t) (a .domain)) pieceGoesOn (begun (a .application) (withMark c)) (capdu bytes) pieces (piece-stops (isDefinite t) (a .domain) (a .application) (withMark c) bytes works)
+    ∙ one-only (pieceDone (isDefinite t) (a .domain)) pieceGoesOn (begun (a .application) (withMark c)) (piecesOf t (a .script)) (capdu bytes) pieces first (piece-stops (isDefinite t) (a .domain) (a .application) (withMark c) bytes works)
     in
     run-done a c ok
     ∙ rw (f, whole)

@@ -1,7 +1,6 @@
 -- Demand 3 for any history, from laws of one call: a refused call changes nothing; a take-back after an accepted run gives back the
 -- card from before it, if the run's script is bytes; a call that is refused, and not with 5, is refused alike on the card that a take-back leaves; 5 is for runs.
 -- Assumes nothing.
-use Prim.Native.Nat.{ℕ}
 use mathlib.Core.Path.{_≡_, refl, sym, ap, ap₂, _∙_, subst}
 use mathlib.Core.Bool.{Bool, true, false, _||_, false≢true}
 use mathlib.Core.List.{List, [], _∷_, _++_, map, reverse, reverse-cons, map-append}
@@ -53,32 +52,29 @@ unfolding left
 left-last c [] h = refl
 left-last c (g ∷ hs) h = left-last (given g c .card) hs h
 
--- a list played with one call more
-one-more : (c : Card) (qs : List Past) (p : Past) (m c′ : Card)
-    → gave c (callsOf qs) ≡ answersOf qs → left c (callsOf qs) ≡ m
-    → given (p .call) m .card ≡ c′ → seen (given (p .call) m) ≡ p .gave
-    → (gave c (callsOf (qs ++ (p ∷ []))) ≡ answersOf (qs ++ (p ∷ []))) × (left c (callsOf (qs ++ (p ∷ []))) ≡ c′)
-one-more c qs p m c′ a l e s = (
+-- calls, oldest first, that give from the first card on what they are said to have given, and leave the last card
+abbrev Replay : Card → List Past → Card → Type 0
+Replay c qs c′ = (gave c (callsOf qs) ≡ answersOf qs) × (left c (callsOf qs) ≡ c′)
+
+one-more : (c : Card) (qs : List Past) (p : Past) (m c′ : Card) → Replay c qs m
+    → given (p .call) m .card ≡ c′ → seen (given (p .call) m) ≡ p .gave → Replay c (qs ++ (p ∷ [])) c′
+one-more c qs p m c′ before e s = (
   ap (gave c) (map-append (λ (q : Past). q .call) qs (p ∷ []))
       ∙ gave-last c (callsOf qs) (p .call)
-      ∙ ap₂ (λ (xs : List Seen) (x : Seen). xs ++ (x ∷ [])) a (ap (λ (k : Card). seen (given (p .call) k)) l ∙ s)
+      ∙ ap₂ (λ (xs : List Seen) (x : Seen). xs ++ (x ∷ [])) (before .0) (ap (λ (k : Card). seen (given (p .call) k)) (before .1) ∙ s)
       ∙ sym (map-append (λ (q : Past). q .gave) qs (p ∷ [])),
   ap (left c) (map-append (λ (q : Past). q .call) qs (p ∷ []))
       ∙ left-last c (callsOf qs) (p .call)
-      ∙ ap (λ (k : Card). given (p .call) k .card) l
+      ∙ ap (λ (k : Card). given (p .call) k .card) (before .1)
       ∙ e,
 )
 
-abbrev Replay : Card → List Past → Card → Type 0
-Replay c ps c′ = (gave c (callsOf (reverse ps)) ≡ answersOf (reverse ps)) × (left c (callsOf (reverse ps)) ≡ c′)
-
-replay : (c : Card) (ps : List Past) (c′ : Card) → Reached c ps c′ → Replay c ps c′
+replay : (c : Card) (ps : List Past) (c′ : Card) → Reached c ps c′ → Replay c (reverse ps) c′
 unfolding gave left
 replay c [] c′ e = (refl, e)
 replay c (p ∷ ps) c′ r =
-    let before : Replay c ps (r .0) = replay c ps (r .0) (r .1) in
-    subst (λ (qs : List Past). (gave c (callsOf qs) ≡ answersOf qs) × (left c (callsOf qs) ≡ c′)) (sym (reverse-cons p ps))
-    (one-more c (reverse ps) p (r .0) c′ (before .0) (before .1) (r .2 .card) (r .2 .shown))
+    subst (λ (qs : List Past). Replay c qs c′) (sym (reverse-cons p ps))
+    (one-more c (reverse ps) p (r .0) c′ (replay c ps (r .0) (r .1)) (r .2 .card) (r .2 .shown))
 
 -- ---- one call more
 
@@ -86,9 +82,6 @@ replay c (p ∷ ps) c′ r =
 shown-number : (p : Past) (r : Result) → seen r ≡ p .gave → number r ≡ p .gave .answer .number
 unfolding seen
 shown-number p r e = ap (λ (s : Seen). s .answer .number) e
-
-five-done : (n : ℕ) → n ≡ 0 → n ≡ 5 → ⊥
-five-done n z f = omega arith
 
 module _ (laws : Laws) where
   -- a take-back from an accepted run's card
@@ -121,7 +114,7 @@ module _ (laws : Laws) where
       → Reached c (pick on ps (p ∷ struck ps)) (given takingBack c′ .card)
   unfolding pick
   strike-at c p ps c′ true on r any ok below =
-      let t : (a : Arguments) × (p .call ≡ running a) × (p .gave .answer .number ≡ 0) × InBytes (running a) = r .2 .trial on in
+      let t = r .2 .trial on in
       subst (λ (k : Card). Reached c ps k) (strike-trial p (r .0) c′ (t .0) (t .1) (t .2) (t .3) (r .2 .shown) (r .2 .card)) (r .1)
   strike-at c p ps c′ false off r any ok below =
       let m : Card = r .0 in
@@ -171,7 +164,7 @@ module _ (laws : Laws) where
       → Reached c (pick five ps (past (running a) (given (running a) m) done ∷ ps)) (given (running a) m .card)
   unfolding pick past seen
   run-more c ps m a small done true r d f =
-      subst (λ (k : Card). Reached c ps k) (sym (laws .refused (running a) m (λ z. five-done (number (given (running a) m)) z (eqb-true _ _ f)))) r
+      subst (λ (k : Card). Reached c ps k) (sym (laws .refused (running a) m (λ z. omega (arith, eqb-true (number (given (running a) m)) 5 f)))) r
   run-more c ps m a small true false r d f =
       (m, r, record { card = refl; shown = refl; trial = λ _. (a, refl, eqb-true _ _ d, small); newer = λ off _. absurd (false≢true (sym off)) })
   run-more c ps m a small false false r d f =
@@ -216,7 +209,5 @@ module _ (laws : Laws) where
   pub replayed : (c : Card) (hs : List Call) → AllInBytes hs → Replayed c hs
   unfolding remains
   replayed c hs small =
-      let played : Replay c (remainsFrom c [] hs) (left c hs) =
-      replay c (remainsFrom c [] hs) (left c hs) (all-more c [] c hs small refl)
-      in
+      let played = replay c (remainsFrom c [] hs) (left c hs) (all-more c [] c hs small refl) in
       record { answers = played .0; card = played .1 }

@@ -17,12 +17,12 @@ use Rattle.journal.proofs.Written.{sound-writable}
 use Rattle.journal.proofs.Cut.{cut-length, cut-scripts, cut-used}
 use Rattle.journal.proofs.Kept.{taken-sound}
 use Rattle.command.proofs.Rows.{rows-taken}
-use Rattle.engine.specs.Numbers.{Arguments, applicationFits, argumentsFit, scriptFits, leastResponse, markFits, templateFits, formatOf, firstGiven, notSound, runRefusals}
+use Rattle.engine.specs.Numbers.{Arguments, applicationFits, argumentsFit, scriptFits, leastResponse, markFits, templateFits, formatOf}
 use Rattle.engine.specs.Calls.{numbered, run}
-use Rattle.demands.specs.Given.{Call, running, takingBack, confirming, given, number, seen}
+use Rattle.demands.specs.Given.{Call, running, takingBack, confirming, given, number, lentResponse, seen}
 use Rattle.engine.proofs.Answers.{confirm-done}
 use Rattle.engine.proofs.Accepted.{firstOf}
-use Rattle.demands.proofs.LawsRefused.{given-seen, script-done, run-number, back-sound, back-card}
+use Rattle.demands.proofs.LawsRefused.{tested, run-tested, refused, back-sound, back-card}
 
 -- a take-back gives a mark more room, and keeps which entries are ADFs
 module _ (c : Card) (sound : soundCard c ≡ true) where
@@ -48,48 +48,30 @@ module _ (c : Card) (sound : soundCard c ≡ true) where
       let r = rows-taken c sound in
       λ i. leb (a .format) 1 && ((eqb (a .application) 0 || (ltb (a .application) (r .count i) && isADF (r .alike (a .application) i))) && (eqb (a .domain) 0x00 || eqb (a .domain) 0xFF))
 
--- a run that is refused, and not with 5, is refused alike
-same-number : (a f r m m′ t : Bool) → (m ≡ true → m′ ≡ true) → (firstOf true a f r m t ≡ 5 → ⊥) → firstOf true a f r m′ t ≡ firstOf true a f r m t
+-- a number that is not 5 stays where a mark fits wherever it fitted before
+same-number : (s a f r m m′ t : Bool) → (m ≡ true → m′ ≡ true) → (firstOf s a f r m t ≡ 5 → ⊥) → firstOf s a f r m′ t ≡ firstOf s a f r m t
 unfolding pick
-same-number false f r m m′ t h z = refl
-same-number true false r m m′ t h z = refl
-same-number true true true m m′ t h z = refl
-same-number true true false true m′ t h z = rw (h refl)
-same-number true true false false m′ t h z = absurd (z refl)
+same-number false a f r m m′ t h z = refl
+same-number true false f r m m′ t h z = refl
+same-number true true false r m m′ t h z = refl
+same-number true true true true m m′ t h z = refl
+same-number true true true false true m′ t h z = rw (h refl)
+same-number true true true false false m′ t h z = absurd (z refl)
 
-module _ (a : Arguments) (c : Card) (sound : soundCard c ≡ true) where
-  abbrev fits : Bool
-  fits = scriptFits (a .script)
-
-  abbrev short : Bool
-  short = ltb (length (a .response)) (leastResponse (formatOf (a .format)))
-
-  abbrev framed : Bool
-  framed = templateFits (formatOf (a .format)) (a .script)
-
-  number-here : firstGiven (runRefusals c a) ≡ firstOf true (argumentsFit (c .table) a) fits short (markFits (c .journal)) framed
-  unfolding runRefusals notSound firstGiven
-  number-here = λ i. firstOf (sound i) (argumentsFit (c .table) a) fits short (markFits (c .journal)) framed
-
-  number-back : firstGiven (runRefusals (takenBack c) a) ≡ firstOf true (argumentsFit (c .table) a) fits short (markFits (takenBack c .journal)) framed
-  unfolding runRefusals notSound firstGiven
-  number-back = λ i. firstOf (taken-sound c sound i) (arguments-back c sound a i) fits short (markFits (takenBack c .journal)) framed
-
-  run-alike : (firstGiven (runRefusals c a) ≡ 5 → ⊥) → firstGiven (runRefusals (takenBack c) a) ≡ firstGiven (runRefusals c a)
-  run-alike z =
-      number-back
-      ∙ same-number (argumentsFit (c .table) a) fits short (markFits (c .journal)) (markFits (takenBack c .journal)) framed (mark-fits-back c sound) (λ e. z (number-here ∙ e))
-      ∙ sym number-here
+run-alike : (a : Arguments) (c : Card) → soundCard c ≡ true → (number (run a c) ≡ 5 → ⊥) → number (run a (takenBack c)) ≡ number (run a c)
+run-alike a c sound five =
+    run-tested a (takenBack c)
+    ∙ (λ i. tested a ((taken-sound c sound ∙ sym sound) i) (arguments-back c sound a i) (markFits (takenBack c .journal)))
+    ∙ same-number (soundCard c) (argumentsFit (c .table) a) (scriptFits (a .script)) (ltb (length (a .response)) (leastResponse (formatOf (a .format)))) (markFits (c .journal)) (markFits (takenBack c .journal)) (templateFits (formatOf (a .format)) (a .script)) (mark-fits-back c sound) (λ e. five (run-tested a c ∙ e))
+    ∙ sym (run-tested a c)
 
 pub alike : (h : Call) (c : Card) → number (given takingBack c) ≡ 0 → (number (given h c) ≡ 0 → ⊥) → (number (given h c) ≡ 5 → ⊥) → seen (given h (given takingBack c .card)) ≡ seen (given h c)
-unfolding given run
+unfolding given lentResponse seen
 alike (running a) c ok z five =
-    let sound = back-sound c ok in
-    let same = run-alike a c sound (λ e. five (run-number a c ∙ e)) in
-    let no : firstGiven (runRefusals c a) ≡ 0 → ⊥ = λ e. z (run-number a c ∙ e) in
+    let same = run-alike a c (back-sound c ok) five in
     (λ i. seen (run a (back-card c ok i)))
-    ∙ given-seen _ (takenBack c) (a .response) _ (script-done (formatOf (a .format)) a _) (λ e. no (sym same ∙ e))
+    ∙ ap seen (refused (running a) (takenBack c) (λ e. z (sym same ∙ e)))
     ∙ (λ i. record { answer = numbered (same i); response = a .response })
-    ∙ sym (given-seen _ c (a .response) _ (script-done (formatOf (a .format)) a _) no)
+    ∙ sym (ap seen (refused (running a) c z))
 alike takingBack c ok z five = absurd (z ok)
 alike confirming c ok z five = absurd (z (ap number (confirm-done c (back-sound c ok))))

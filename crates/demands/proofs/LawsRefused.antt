@@ -5,45 +5,41 @@ use mathlib.Core.Path.{_≡_, refl, sym, ap, _∙_}
 use mathlib.Core.Bool.{Bool, true, false, not}
 use mathlib.Core.List.{List, []}
 use native.Mathlib.Omega.{arith}
-use lib.Dec.{eqb}
+use lib.Dec.{ltb, eqb}
+use lib.ListN.{length}
 use borrow.Author.Tests.{eqb-true, eq-eqb, ne-eqb}
 use Rattle.octets.specs.Choice.{pick}
+use Rattle.octets.proofs.Picks.{on-test}
 use Rattle.card.specs.Row.{Card}
-use Rattle.journal.specs.Entries.{scriptsOnTrial}
 use Rattle.journal.specs.Sound.{soundCard}
-use Rattle.journal.specs.Changes.{withJournal, marked, takenBack}
+use Rattle.journal.specs.Changes.{takenBack}
 use Rattle.command.specs.declared.Format.{Format}
 use Rattle.command.specs.declared.Format.the-variants.{Compact, Expanded}
-use Rattle.engine.specs.Numbers.{Arguments, formatOf, firstGiven, notSound, runRefusals, takeBackRefusals, confirmRefusals}
+use Rattle.engine.specs.Numbers.{Arguments, formatOf, argumentsFit, scriptFits, leastResponse, markFits, templateFits, firstGiven, notSound, runRefusals, takeBackRefusals, confirmRefusals}
 use Rattle.engine.specs.Calls.{Result, gives, numbered, accepted, unlessRefused, runScript, run, takeBack, confirm}
-use Rattle.demands.specs.Given.{Call, running, takingBack, confirming, given, number, lentResponse, seen}
+use Rattle.engine.proofs.Accepted.{firstOf}
+use Rattle.demands.specs.Given.{Call, running, takingBack, confirming, given, number, lentResponse}
+use Rattle.demands.specs.Demand2.{withMark}
 
 -- a call that is done where no number is given
-module _ (n : ℕ) (c : Card) (response : List ℕ) (r : Result) (done : number r ≡ 0) where
-  pub given-number : number (unlessRefused n c response r) ≡ n
-  unfolding unlessRefused
-  given-number = go (eqb n 0) refl
-    where
-      go : (b : Bool) → eqb n 0 ≡ b → number (elim b [ true ↦ r | false ↦ gives (numbered n) c response ]) ≡ n
-      go true e = done ∙ sym (eqb-true n 0 e)
-      go false e = refl
-
+module _ (n : ℕ) (c : Card) (response : List ℕ) (r : Result) where
   given-nothing : (n ≡ 0 → ⊥) → unlessRefused n c response r ≡ gives (numbered n) c response
   unfolding unlessRefused
   given-nothing z = rw (ne-eqb n 0 z, unlessRefused)
-
-  given-alone : (number (unlessRefused n c response r) ≡ 0 → ⊥) → unlessRefused n c response r ≡ gives (numbered (number (unlessRefused n c response r))) c response
-  given-alone z = given-nothing (λ e. z (given-number ∙ e)) ∙ ap (λ (k : ℕ). gives (numbered k) c response) (sym given-number)
-
-  pub given-seen : (n ≡ 0 → ⊥) → seen (unlessRefused n c response r) ≡ record { answer = numbered n; response = response }
-  unfolding seen
-  given-seen z = λ i. seen (given-nothing z i)
 
   given-done : n ≡ 0 → unlessRefused n c response r ≡ r
   unfolding unlessRefused
   given-done z = rw (eq-eqb n 0 z, unlessRefused)
 
-pub script-done : (f : Format) (a : Arguments) (c : Card) → number (runScript f a c) ≡ 0
+  module _ (done : number r ≡ 0) where
+    given-number : number (unlessRefused n c response r) ≡ n
+    unfolding unlessRefused
+    given-number = on-test (λ (s : Result). number s ≡ n) (eqb n 0) _ _ (λ e. done ∙ sym (eqb-true n 0 e)) (λ _. refl)
+
+    given-alone : (number (unlessRefused n c response r) ≡ 0 → ⊥) → unlessRefused n c response r ≡ gives (numbered (number (unlessRefused n c response r))) c response
+    given-alone z = given-nothing (λ e. z (given-number ∙ e)) ∙ ap (λ (k : ℕ). gives (numbered k) c response) (sym given-number)
+
+script-done : (f : Format) (a : Arguments) (c : Card) → number (runScript f a c) ≡ 0
 unfolding runScript accepted
 script-done Compact a c = refl
 script-done Expanded a c = refl
@@ -61,10 +57,20 @@ pub confirm-number : (c : Card) → number (confirm c) ≡ firstGiven (confirmRe
 unfolding confirm
 confirm-number c = given-number _ c [] _ refl
 
+-- a run's number by its tests: of the card and the arguments, and whether a mark fits
+abbrev pub tested : Arguments → Bool → Bool → Bool → ℕ
+tested a sound fits mark =
+    firstOf sound fits (scriptFits (a .script)) (ltb (length (a .response)) (leastResponse (formatOf (a .format)))) mark
+    (templateFits (formatOf (a .format)) (a .script))
+
+pub run-tested : (a : Arguments) (c : Card) → number (run a c) ≡ tested a (soundCard c) (argumentsFit (c .table) a) (markFits (c .journal))
+unfolding runRefusals notSound firstGiven
+run-tested a c = run-number a c
+
 -- an accepted run is its script, on the card with its mark
-pub run-done : (a : Arguments) (c : Card) → number (given (running a) c) ≡ 0 → given (running a) c ≡ runScript (formatOf (a .format)) a (withJournal c (marked (c .journal)))
+pub run-done : (a : Arguments) (c : Card) → number (given (running a) c) ≡ 0 → given (running a) c ≡ runScript (formatOf (a .format)) a (withMark c)
 unfolding given run
-run-done a c ok = given-done _ c (a .response) _ (script-done (formatOf (a .format)) a _) (sym (run-number a c) ∙ ok)
+run-done a c ok = given-done _ c (a .response) _ (sym (run-number a c) ∙ ok)
 
 -- a refused call gives its number and nothing else
 pub refused : (h : Call) (c : Card) → (number (given h c) ≡ 0 → ⊥) → given h c ≡ gives (numbered (number (given h c))) c (lentResponse h)
@@ -74,19 +80,19 @@ refused takingBack c z = given-alone _ c [] _ refl z
 refused confirming c z = given-alone _ c [] _ refl z
 
 -- 5 is for runs
-not-five : (a b : Bool) (n : ℕ) → (n ≡ 5 → ⊥) → pick a 1 (pick b n 0) ≡ 5 → ⊥
+not-five : (a b : Bool) → _≡_ {A = ℕ} (pick a 1 (pick b 7 0)) 5 → ⊥
 unfolding pick
-not-five true b n z h = omega arith
-not-five false true n z h = z h
-not-five false false n z h = omega arith
+not-five true b h = omega arith
+not-five false true h = omega arith
+not-five false false h = omega arith
 
 pub notBack : (c : Card) → number (given takingBack c) ≡ 5 → ⊥
 unfolding given takeBackRefusals notSound firstGiven
-notBack c h = not-five (not (soundCard c)) (eqb (scriptsOnTrial (c .journal)) 0) 7 (λ e. omega arith) (sym (back-number c) ∙ h)
+notBack c h = not-five _ _ (sym (back-number c) ∙ h)
 
 pub notConfirm : (c : Card) → number (given confirming c) ≡ 5 → ⊥
 unfolding given confirmRefusals notSound firstGiven pick
-notConfirm c h = not-five (not (soundCard c)) false 7 (λ e. omega arith) (sym (confirm-number c) ∙ h)
+notConfirm c h = not-five (not (soundCard c)) false (sym (confirm-number c) ∙ h)
 
 -- an accepted take-back
 first-sound : (b : Bool) (n : ℕ) → pick (not b) 1 n ≡ 0 → b ≡ true
@@ -105,4 +111,4 @@ module _ (c : Card) (ok : number (given takingBack c) ≡ 0) where
 
   pub back-card : given takingBack c .card ≡ takenBack c
   unfolding given takeBack
-  back-card = ap (λ (r : Result). r .card) (given-done _ c [] _ refl none)
+  back-card = ap (λ (r : Result). r .card) (given-done _ c [] _ none)

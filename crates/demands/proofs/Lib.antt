@@ -2,7 +2,7 @@ pub mod Worked
 pub mod History
 pub mod LawsRefused
 pub mod LawsAlike
-pub mod Laws
+pub mod Demand3
 pub mod Demand1
 pub mod Commands
 pub mod AllRead

@@ -1,3 +1,5 @@
 pub mod Written
-pub mod Signs
+pub mod Numbers
+pub mod Hex
+pub mod Decimal
 pub mod Answers

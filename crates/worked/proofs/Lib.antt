@@ -1,3 +1,3 @@
 pub mod Reading
-pub mod Ran
+pub mod Shape
 pub mod Longest

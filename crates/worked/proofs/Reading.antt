@@ -29,7 +29,7 @@ module _ (bs : List ℕ) (at : ℕ) where
   unfolding lineEnd lineOf
   line-here h e = rw (drop-cons bs at 0 h, eq-eqb (byte bs at) lineFeed e, lineOf, add-zero)
 
-  pub line-goes-on : at < length bs → (byte bs at ≡ lineFeed → ⊥) → lineEnd bs at ≡ lineEnd bs (at + 1)
+  pub line-goes-on : at < length bs → (byte bs at ≡ lineFeed → ⊥) → lineEnd bs (at + 1) ≡ lineEnd bs at
   unfolding lineEnd lineOf
   line-goes-on h e = rw (add-one at, drop-cons bs at 0 h, ne-eqb (byte bs at) lineFeed e, lineOf) (omega arith)
 

@@ -1,13 +1,14 @@
 -- `worked::print` meets its contract: what is printed is that of the input's shape. Assumes nothing.
 use mathlib.Core.Path.{sym, ap, _∙_}
-use Prim.Native.Nat.{ℕ, _-_}
+use Prim.Native.Nat.{ℕ}
 use mathlib.Core.List.{List}
 use lib.ListN.{length}
 use lib.Seq.{length-take-le}
-use Rattle.octets.specs.Bytes.{part, overwrite}
+use Rattle.octets.specs.Bytes.{overwrite}
 use Rattle.lines.proofs.Written.{taken}
+use Rattle.lines.proofs.Hex.{script-short, script-hex}
 use Rattle.worked.specs.Printed.{ranOn, resultLines}
-use Rattle.worked.proofs.Ran.{input-lies, script-hex, script-short, script-bytes, printed-bad, printed-run}
+use Rattle.worked.proofs.Shape.{input-lies, script-bytes, printed-bad, printed-run}
 use borrow.Author.Needs.{needs}
 use native.Mathlib.Omega.{arith}
 use Rattle.worked.proofs.print.Statement.{statement}
@@ -32,33 +33,31 @@ returns : tie.Need-returns
 returns c = rw (printed-bad (c .before .before .before .before .before .before .before .before .before .args .input .now) (sym (c .before .before .before .before .before .before .input-of .ensures .0) ∙ c .before .before .before .before .enum-told .given .1)) (c .before .before .put-bad .ensures)
 
 sub-decode : tie.Need-sub-decode
-sub-decode c = input-lies (c .before .before .before .before .before .before .args .input .now) _ (c .before .call .given .1) (c .before .before .before .input-of .ensures .1) .0
+sub-decode c = input-lies _ _ (c .before .call .given .1) (c .before .before .before .input-of .ensures .1) .0
 
 part-decode-start : tie.Need-part-decode-start
-part-decode-start c = input-lies (c .before .before .before .before .before .before .args .input .now) _ (c .before .call .given .1) (c .before .before .before .input-of .ensures .1) .0
+part-decode-start c = input-lies _ _ (c .before .call .given .1) (c .before .before .before .input-of .ensures .1) .0
 
 part-decode-end : tie.Need-part-decode-end
-part-decode-end c = input-lies (c .before .before .before .before .before .before .args .input .now) _ (c .before .call .given .1) (c .before .before .before .input-of .ensures .1) .1
+part-decode-end c = input-lies _ _ (c .before .call .given .1) (c .before .before .before .input-of .ensures .1) .1
 
 slice-aggregate-decode : tie.Need-slice-aggregate-decode
 slice-aggregate-decode c = search needs
 
 decode-requires : tie.Need-decode-requires
 decode-requires c κs =
-    let h = input-lies (c .before .before .before .before .before .before .before .before .args .input .now) _ (c .before .before .before .call .given .1) (c .before .before .before .before .before .input-of .ensures .1) in
+    let h = input-lies _ _ (c .before .before .before .call .given .1) (c .before .before .before .before .before .input-of .ensures .1) in
     (script-hex _ (h .2), script-short _ (h .2))
 
 array-share-prefix-script : tie.Need-array-share-prefix-script
 array-share-prefix-script c =
-    let h = input-lies (c .before .before .before .before .before .before .before .before .before .before .args .input .now) _ (c .before .before .before .before .before .call .given .1) (c .before .before .before .before .before .before .before .input-of .ensures .1) in
-    let call = c .before .before .before .before .before .call .given .0 .0 in
-    omega (arith, script-bytes (part (c .before .before .before .before .before .before .before .before .before .before .args .input .now) (call .from) (call .to - call .from)) (h .2))
+    let few = script-bytes _ (input-lies _ _ (c .before .before .before .before .before .call .given .1) (c .before .before .before .before .before .before .before .input-of .ensures .1) .2) in
+    omega (arith, few)
 
 slice-aggregate-put-run : tie.Need-slice-aggregate-put-run
 slice-aggregate-put-run c =
-    let h = input-lies (c .before .before .before .before .before .before .before .before .before .before .before .args .input .now) _ (c .before .before .before .before .before .before .call .given .1) (c .before .before .before .before .before .before .before .before .input-of .ensures .1) in
-    let call = c .before .before .before .before .before .before .call .given .0 .0 in
-    sym (length-take-le _ _ (omega (arith, script-bytes (part (c .before .before .before .before .before .before .before .before .before .before .before .args .input .now) (call .from) (call .to - call .from)) (h .2))))
+    let few = script-bytes _ (input-lies _ _ (c .before .before .before .before .before .before .call .given .1) (c .before .before .before .before .before .before .before .before .input-of .ensures .1) .2) in
+    sym (length-take-le _ _ (omega (arith, few)))
 
 put-run-requires : tie.Need-put-run-requires
 put-run-requires c κs = search needs
@@ -69,13 +68,13 @@ same-length-2 c = search needs
 returns-2 : tie.Need-returns-2
 returns-2 c =
     let a = c .before .before .before .before .before .before .before .before .before .before .before .before .before .before .before .args in
-    let h = input-lies (c .before .before .before .before .before .before .before .before .before .before .before .before .before .before .before .args .input .now) _ (c .before .before .before .before .before .before .before .before .before .before .call .given .1) (c .before .before .before .before .before .before .before .before .before .before .before .before .input-of .ensures .1) in
-    let call = c .before .before .before .before .before .before .before .before .before .before .call .given .0 .0 in
-    let d = c .before .before .before .before .before .before .decode in
+    let i = c .before .before .before .before .before .before .before .before .before .before .before .before .input-of .ensures in
+    let g = c .before .before .before .before .before .before .before .before .before .before .call .given in
+    let d = c .before .before .before .before .before .before .decode .ensures in
     let p = c .before .before .put-run .ensures in
-    let e = printed-run (a .input .now) call (sym (c .before .before .before .before .before .before .before .before .before .before .before .before .input-of .ensures .0) ∙ c .before .before .before .before .before .before .before .before .before .before .call .given .1) in
-    let t = taken _ _ _ _ (d .ensures .0) (d .ensures .1) (script-bytes _ (h .2)) in
-    (p .0 ∙ ap (λ (s : List ℕ). overwrite (a .out .now) 0 (resultLines (ranOn call s))) t ∙ ap (overwrite (a .out .now) 0) (sym e), p .1 ∙ ap (λ (s : List ℕ). length (resultLines (ranOn call s))) t ∙ ap length (sym e), p .2)
+    let t = taken _ _ _ _ (d .0) (d .1) (script-bytes _ (input-lies _ _ (g .1) (i .1) .2)) in
+    let e = ap (λ (s : List ℕ). resultLines (ranOn (g .0 .0) s)) t ∙ sym (printed-run (a .input .now) (g .0 .0) (sym (i .0) ∙ g .1)) in
+    (p .0 ∙ ap (overwrite (a .out .now) 0) e, p .1 ∙ ap length e, p .2)
 
 pub print-spec : {M : Type 1} → statement M
 print-spec =

@@ -16,38 +16,43 @@ slice-aggregate-decode c = search needs
 
 decode-requires : tie.Need-decode-requires
 decode-requires c κs =
-    let h = journal-digits (c .before .before .before .before .before .args .label .now) (c .before .before .before .before .before .args .journal .now) (c .before .before .before .before .before .args .script .now) (c .before .before .before .before .before .pre .1) in
-    (digits-hex 2048 _ h, digits-few 2048 _ h)
+    let h = journal-digits _ _ _ (c .before .before .before .before .before .pre .1) in
+    (digits-hex _ _ h, digits-few _ _ h)
 
 slice-aggregate-decode-2 : tie.Need-slice-aggregate-decode-2
 slice-aggregate-decode-2 c = search needs
 
 decode-requires-2 : tie.Need-decode-requires-2
 decode-requires-2 c κs =
-    let h = script-digits (c .before .before .before .before .before .before .before .before .args .label .now) (c .before .before .before .before .before .before .before .before .args .journal .now) (c .before .before .before .before .before .before .before .before .args .script .now) (c .before .before .before .before .before .before .before .before .pre .1) in
-    (digits-hex 1024 _ h, digits-few 1024 _ h)
+    let h = script-digits _ _ _ (c .before .before .before .before .before .before .before .before .pre .1) in
+    (digits-hex _ _ h, digits-few _ _ h)
 
 slice-aggregate-put-run : tie.Need-slice-aggregate-put-run
 slice-aggregate-put-run c = search needs
 
 array-share-prefix-script-bytes : tie.Need-array-share-prefix-script-bytes
-array-share-prefix-script-bytes c = omega (arith, c .before .before .before .decode2 .ensures .1, digits-bytes 1024 (c .before .before .before .before .before .before .before .before .before .before .before .before .args .script .now) (script-digits (c .before .before .before .before .before .before .before .before .before .before .before .before .args .label .now) (c .before .before .before .before .before .before .before .before .before .before .before .before .args .journal .now) (c .before .before .before .before .before .before .before .before .before .before .before .before .args .script .now) (c .before .before .before .before .before .before .before .before .before .before .before .before .pre .1)))
+array-share-prefix-script-bytes c =
+    let few = digits-bytes _ _ (script-digits _ _ _ (c .before .before .before .before .before .before .before .before .before .before .before .before .pre .1)) in
+    omega (arith, c .before .before .before .decode2 .ensures .1, few)
 
 slice-aggregate-put-run-2 : tie.Need-slice-aggregate-put-run-2
-slice-aggregate-put-run-2 c = sym (length-take-le _ _ (omega (arith, c .before .before .before .before .decode2 .ensures .1, digits-bytes 1024 (c .before .before .before .before .before .before .before .before .before .before .before .before .before .args .script .now) (script-digits (c .before .before .before .before .before .before .before .before .before .before .before .before .before .args .label .now) (c .before .before .before .before .before .before .before .before .before .before .before .before .before .args .journal .now) (c .before .before .before .before .before .before .before .before .before .before .before .before .before .args .script .now) (c .before .before .before .before .before .before .before .before .before .before .before .before .before .pre .1)))))
+slice-aggregate-put-run-2 c =
+    let few = digits-bytes _ _ (script-digits _ _ _ (c .before .before .before .before .before .before .before .before .before .before .before .before .before .pre .1)) in
+    sym (length-take-le _ _ (omega (arith, c .before .before .before .before .decode2 .ensures .1, few)))
 
 put-run-requires : tie.Need-put-run-requires
-put-run-requires c κs = (omega arith, label-short (c .before .before .before .before .before .before .before .before .before .before .before .before .before .args .label .now) (c .before .before .before .before .before .before .before .before .before .before .before .before .before .args .journal .now) (c .before .before .before .before .before .before .before .before .before .before .before .before .before .args .script .now) (c .before .before .before .before .before .before .before .before .before .before .before .before .before .pre .1), omega arith)
+put-run-requires c κs = (omega arith, label-short _ _ _ (c .before .before .before .before .before .before .before .before .before .before .before .before .before .pre .1), omega arith)
 
 same-length : tie.Need-same-length
 same-length c = search needs
 
 returns : tie.Need-returns
 returns c =
-    let a = c .before .before .before .before .before .before .before .before .before .before .before .before .before .before .before .before .before .args in
+    let s = c .before .before .before .before .before .before .before .before .before .before .before .before .before .before .before .before .before in
+    let a = s .args in
     let d = c .before .before .before .before .before .before .before .before .decode2 .ensures in
-    let s = taken _ _ _ _ (d .0) (d .1) (digits-bytes 1024 (a .script .now) (script-digits (c .before .before .before .before .before .before .before .before .before .before .before .before .before .before .before .before .before .args .label .now) (c .before .before .before .before .before .before .before .before .before .before .before .before .before .before .before .before .before .args .journal .now) (c .before .before .before .before .before .before .before .before .before .before .before .before .before .before .before .before .before .args .script .now) (c .before .before .before .before .before .before .before .before .before .before .before .before .before .before .before .before .before .pre .1))) in
-    let l = case-line (a .label .now) (a .application) (a .domain) (a .format) (a .journal .now) (a .script .now) _ _ (c .before .before .before .before .before .before .before .before .before .before .before .decode .ensures .0) s in
+    let t = taken _ _ _ _ (d .0) (d .1) (digits-bytes _ _ (script-digits _ _ _ (s .pre .1))) in
+    let l = case-line (a .label .now) (a .application) (a .domain) (a .format) (a .journal .now) (a .script .now) _ _ (c .before .before .before .before .before .before .before .before .before .before .before .decode .ensures .0) t in
     let p = c .before .before .before .put-run .ensures in
     (p .0 ∙ ap (overwrite (a .out .now) 0) l, p .1 ∙ ap length l, p .2)
 

@@ -1,10 +1,11 @@
 -- `cases::line::put_labelled` meets its contract: the label and the four values are written one behind the other. Assumes nothing.
-use mathlib.Core.Path.{_≡_}
-use Prim.Native.Nat.{_+_}
+use mathlib.Core.Path.{_≡_, _∙_}
+use Prim.Native.Nat.{_+_, _≤_}
+use native.Mathlib.Nat.{zero-add}
 use lib.ListN.{length}
 use Rattle.lines.specs.Digits.{ascii}
-use Rattle.lines.proofs.Written.{five-written, five-length}
-use Rattle.cases.specs.Cases.{labelled}
+use Rattle.lines.proofs.Written.{put, behind}
+use Rattle.cases.specs.Cases.{labelled, mostInLine}
 use borrow.Author.Needs.{needs}
 use native.Mathlib.Omega.{arith}
 use Rattle.cases.proofs.line.put_labelled.Statement.{statement}
@@ -43,15 +44,15 @@ same-length c = search needs
 returns : tie.Need-returns
 unfolding labelled ascii
 returns c =
-    let a = c .before .before .before .before .before .before .before .before .before .before .before .before .before .before .before .before .before .before .before .before .before .before .before .before .before .before .before .before .args in
-    let start : length (a .label .now) ≡ 0 + length (a .label .now) = omega arith in
+    let s = c .before .before .before .before .before .before .before .before .before .before .before .before .before .before .before .before .before .before .before .before .before .before .before .before .before .before .before .before in
+    let start : length (s .args .label .now) ≡ 0 + length (s .args .label .now) = omega arith in
     let p₁ = c .before .before .before .before .before .before .before .before .before .before .before .before .before .before .before .before .before .put-number .ensures in
     let p₂ = c .before .before .before .before .before .before .before .before .before .before .before .before .put-number2 .ensures in
     let p₃ = c .before .before .before .before .before .before .before .put-bytes .ensures in
     let p₄ = c .before .before .put-bytes2 .ensures in
-    let five = five-written _ _ _ _ _ _ _ _ _ _ _ _ _ _ _ _ (c .before .before .before .before .before .before .before .before .before .before .before .before .before .before .before .before .before .before .before .before .before .before .copy .ensures) start (p₁ .0) (p₁ .1) (p₂ .0) (p₂ .1) (p₃ .0) (p₃ .1) (p₄ .0) (p₄ .1) (omega (arith, p₁ .2, p₂ .2, p₃ .2, p₄ .2, c .before .before .before .before .before .before .before .before .before .before .before .before .before .before .before .before .before .before .before .before .before .before .before .before .before .before .before .before .pre)) in
-    let long = five-length _ _ _ _ _ _ _ _ _ _ _ _ _ _ _ _ (c .before .before .before .before .before .before .before .before .before .before .before .before .before .before .before .before .before .before .before .before .before .before .copy .ensures) start (p₁ .0) (p₁ .1) (p₂ .0) (p₂ .1) (p₃ .0) (p₃ .1) (p₄ .0) (p₄ .1) (omega (arith, p₁ .2, p₂ .2, p₃ .2, p₄ .2, c .before .before .before .before .before .before .before .before .before .before .before .before .before .before .before .before .before .before .before .before .before .before .before .before .before .before .before .before .pre)) in
-    (five, long, omega (arith, p₁ .2, p₂ .2, p₃ .2, p₄ .2, c .before .before .before .before .before .before .before .before .before .before .before .before .before .before .before .before .before .before .before .before .before .before .before .before .before .before .before .before .pre))
+    let w = behind (put (c .before .before .before .before .before .before .before .before .before .before .before .before .before .before .before .before .before .before .before .before .before .before .copy .ensures) start) (behind (put (p₁ .0) (p₁ .1)) (behind (put (p₂ .0) (p₂ .1)) (behind (put (p₃ .0) (p₃ .1)) (put (p₄ .0) (p₄ .1))))) in
+    let most : c .before .before .put-bytes2 .result ≤ mostInLine = omega (arith, p₁ .2, p₂ .2, p₃ .2, p₄ .2, s .pre) in
+    (w .memory (omega (arith, most, s .pre)), w .place ∙ zero-add _, most)
 
 pub put-labelled-spec : {M : Type 1} → statement M
 put-labelled-spec =

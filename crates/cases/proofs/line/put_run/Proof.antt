@@ -3,8 +3,10 @@ use mathlib.Core.Path.{sym, ap, _∙_}
 use lib.ListN.{length}
 use lib.Seq.{length-take-le}
 use Rattle.octets.specs.Bytes.{overwrite}
-use Rattle.lines.proofs.Answers.{answer-fits}
-use Rattle.cases.proofs.Ran.{ran, run-line}
+use Rattle.journal.specs.Changes.{withJournal}
+use Rattle.lines.proofs.Answers.{answer-fits, ran}
+use Rattle.cases.specs.Cases.{ranOn}
+use Rattle.cases.proofs.Ran.{run-line}
 use borrow.Author.Needs.{needs}
 use native.Mathlib.Omega.{arith}
 use Rattle.cases.proofs.line.put_run.Statement.{statement}
@@ -57,9 +59,10 @@ same-length-2 : tie.Need-same-length-2
 same-length-2 c = search needs
 
 returns : tie.Need-returns
+unfolding ranOn withJournal
 returns c =
     let a = c .before .before .before .before .before .before .before .before .before .before .before .before .before .before .before .before .before .before .before .before .before .before .before .before .args in
-    let e = ran (a .application) (a .domain) (a .format) (a .script .now) _ _ (a .journal .now) _ (c .before .before .before .before .before .before .before .before .before .before .before .before .before .before .before .before .before .before .before .worked-table .ensures .0) (c .before .before .before .before .before .before .before .before .before .before .before .before .before .before .before .before .before .before .worked-files .ensures .0) (c .before .before .before .before .before .before .before .before .before .before .before .before .before .run .ensures .0) in
+    let e = ran _ _ _ _ _ (c .before .before .before .before .before .before .before .before .before .before .before .before .before .before .before .before .before .before .before .worked-table .ensures .0) (c .before .before .before .before .before .before .before .before .before .before .before .before .before .before .before .before .before .before .worked-files .ensures .0) (c .before .before .before .before .before .before .before .before .before .before .before .before .before .run .ensures .0) in
     let l = run-line (a .label .now) _ _ _ e (c .before .before .before .before .before .before .in-use .ensures .0) in
     let p = c .before .before .put-labelled .ensures in
     (p .0 ∙ ap (overwrite (a .out .now) 0) l, p .1 ∙ ap length l, p .2)

@@ -1,8 +1,8 @@
 -- The proof of the cycle of calls {put_decimal}, `lines::digits::put_decimal` alone. The measure is the number. Assumes nothing.
 use native.Mathlib.Omega.{arith}
 use lib.ListN.{length-set}
-use Rattle.lines.proofs.Signs.{put-one, front-small, put-more}
-use Prim.Native.Nat.{ℕ, _<_}
+use Rattle.lines.proofs.Decimal.{place-most, put-one, put-more}
+use Prim.Native.Nat.{ℕ, _/_, _<_}
 use borrow.Fn.Kinds.{In}
 use borrow.Fn.PlainCycle.{Measures, is, falls, and}
 use Rattle.lines.proofs.digits.put_decimal.Reads as put-decimal
@@ -15,124 +15,70 @@ use Rattle.lines.proofs.digits.+put_decimal.Tie.{close}
 abbrev μ-put-decimal : Measures 1 put-decimal-kinds.ps ℕ
 μ-put-decimal κs a = a .1 .1 .0
 
-abbrev put-decimal-at : ℕ → In 1 put-decimal-kinds.ps
-put-decimal-at t =
-    and 1 put-decimal-kinds.ps (is 1 put-decimal-kinds.ps μ-put-decimal t) put-decimal.Pre
+module _ (t : ℕ) where
+  abbrev at : In 1 put-decimal-kinds.ps
+  at = and 1 put-decimal-kinds.ps (is 1 put-decimal-kinds.ps μ-put-decimal t) put-decimal.Pre
 
-abbrev put-decimal-below : ℕ → In 1 put-decimal-kinds.ps
-put-decimal-below t =
-    and 1 put-decimal-kinds.ps (falls 1 put-decimal-kinds.ps _<_ μ-put-decimal t) put-decimal.Pre
+  abbrev below : In 1 put-decimal-kinds.ps
+  below = and 1 put-decimal-kinds.ps (falls 1 put-decimal-kinds.ps _<_ μ-put-decimal t) put-decimal.Pre
 
-put-decimal-sign-requires : (t : ℕ) → put-decimal-lts.Need-sign-requires (
-  sign-reads.Asked,
-  sign-reads.Learnt,
-  put-decimal-below t,
-  put-decimal.Post,
-) (put-decimal-at t) put-decimal.Post
-put-decimal-sign-requires t c κs = omega arith
+  -- what is known of the functions that are called
+  abbrev claims : put-decimal-lts.Claims
+  claims = (sign-reads.Asked, sign-reads.Learnt, below, put-decimal.Post)
 
-put-decimal-slice-write-out : (t : ℕ) → put-decimal-lts.Need-slice-write-out (
-  sign-reads.Asked,
-  sign-reads.Learnt,
-  put-decimal-below t,
-  put-decimal.Post,
-) (put-decimal-at t) put-decimal.Post
-put-decimal-slice-write-out t c = omega arith
+  sign-requires : put-decimal-lts.Need-sign-requires claims at put-decimal.Post
+  sign-requires c κs = omega arith
 
-put-decimal-add-result : (t : ℕ) → put-decimal-lts.Need-add-result (
-  sign-reads.Asked,
-  sign-reads.Learnt,
-  put-decimal-below t,
-  put-decimal.Post,
-) (put-decimal-at t) put-decimal.Post
-put-decimal-add-result t c = omega arith
+  slice-write-out : put-decimal-lts.Need-slice-write-out claims at put-decimal.Post
+  slice-write-out c = omega arith
 
-put-decimal-same-length : (t : ℕ) → put-decimal-lts.Need-same-length (
-  sign-reads.Asked,
-  sign-reads.Learnt,
-  put-decimal-below t,
-  put-decimal.Post,
-) (put-decimal-at t) put-decimal.Post
-put-decimal-same-length t c = simp length-set
+  add-result : put-decimal-lts.Need-add-result claims at put-decimal.Post
+  add-result c = omega arith
 
-put-decimal-returns : (t : ℕ) → put-decimal-lts.Need-returns (
-  sign-reads.Asked,
-  sign-reads.Learnt,
-  put-decimal-below t,
-  put-decimal.Post,
-) (put-decimal-at t) put-decimal.Post
-put-decimal-returns t c =
-    let a = c .before .before .before .args in
-    λ k h. put-one (a .out .now) (a .at) k (a .n) (c .sign .result) (c .sign .ensures) h (c .before .if1 .taken) (omega arith)
+  same-length : put-decimal-lts.Need-same-length claims at put-decimal.Post
+  same-length c = simp length-set
 
-put-decimal-put-decimal-requires : (t : ℕ) → put-decimal-lts.Need-put-decimal-requires (
-  sign-reads.Asked,
-  sign-reads.Learnt,
-  put-decimal-below t,
-  put-decimal.Post,
-) (put-decimal-at t) put-decimal.Post
-put-decimal-put-decimal-requires t c κs = (omega arith, omega arith)
+  returns : put-decimal-lts.Need-returns claims at put-decimal.Post
+  returns c =
+      let a = c .before .before .before .args in
+      put-one (a .out .now) (a .at) (a .n) _ (omega arith) (c .sign .ensures) (c .before .if1 .taken)
 
-put-decimal-sign-requires-2 : (t : ℕ) → put-decimal-lts.Need-sign-requires-2 (
-  sign-reads.Asked,
-  sign-reads.Learnt,
-  put-decimal-below t,
-  put-decimal.Post,
-) (put-decimal-at t) put-decimal.Post
-put-decimal-sign-requires-2 t c κs = omega arith
+  put-decimal-requires : put-decimal-lts.Need-put-decimal-requires claims at put-decimal.Post
+  put-decimal-requires c κs = (omega arith, omega arith)
 
-put-decimal-slice-write-out-2 : (t : ℕ) → put-decimal-lts.Need-slice-write-out-2 (
-  sign-reads.Asked,
-  sign-reads.Learnt,
-  put-decimal-below t,
-  put-decimal.Post,
-) (put-decimal-at t) put-decimal.Post
-put-decimal-slice-write-out-2 t c = omega (arith, front-small _ _ (c .before .before .before .before .before .before .before .args .at) (c .before .before .before .put-decimal .result) (c .before .before .before .before .before .before .before .args .n) (omega arith) (c .before .before .before .put-decimal .ensures))
+  sign-requires-2 : put-decimal-lts.Need-sign-requires-2 claims at put-decimal.Post
+  sign-requires-2 c κs = omega arith
 
-put-decimal-add-result-2 : (t : ℕ) → put-decimal-lts.Need-add-result-2 (
-  sign-reads.Asked,
-  sign-reads.Learnt,
-  put-decimal-below t,
-  put-decimal.Post,
-) (put-decimal-at t) put-decimal.Post
-put-decimal-add-result-2 t c = omega (arith, front-small _ _ (c .before .before .before .before .before .before .before .args .at) (c .before .before .before .put-decimal .result) (c .before .before .before .before .before .before .before .args .n) (omega arith) (c .before .before .before .put-decimal .ensures))
+  slice-write-out-2 : put-decimal-lts.Need-slice-write-out-2 claims at put-decimal.Post
+  slice-write-out-2 c =
+      let a = c .before .before .before .before .before .before .before .args in
+      omega (arith, place-most (a .out .now) (a .at) (a .n / 10) 18 (omega arith) (c .before .before .before .put-decimal .ensures))
 
-put-decimal-same-length-2 : (t : ℕ) → put-decimal-lts.Need-same-length-2 (
-  sign-reads.Asked,
-  sign-reads.Learnt,
-  put-decimal-below t,
-  put-decimal.Post,
-) (put-decimal-at t) put-decimal.Post
-put-decimal-same-length-2 t c = simp length-set (omega arith)
+  add-result-2 : put-decimal-lts.Need-add-result-2 claims at put-decimal.Post
+  add-result-2 c =
+      let a = c .before .before .before .before .before .before .before .args in
+      omega (arith, place-most (a .out .now) (a .at) (a .n / 10) 18 (omega arith) (c .before .before .before .put-decimal .ensures))
 
-put-decimal-returns-2 : (t : ℕ) → put-decimal-lts.Need-returns-2 (
-  sign-reads.Asked,
-  sign-reads.Learnt,
-  put-decimal-below t,
-  put-decimal.Post,
-) (put-decimal-at t) put-decimal.Post
-put-decimal-returns-2 t c =
-    let a = c .before .before .before .before .before .before .before .args in
-    let p = c .before .before .before .put-decimal in
-    λ k h. put-more (a .out .now) _ (a .at) (p .result) k (a .n) (c .sign2 .result) (c .sign2 .ensures) h (omega arith) (omega arith) (omega arith) (p .ensures)
+  same-length-2 : put-decimal-lts.Need-same-length-2 claims at put-decimal.Post
+  same-length-2 c = simp length-set (omega arith)
+
+  returns-2 : put-decimal-lts.Need-returns-2 claims at put-decimal.Post
+  returns-2 c =
+      let a = c .before .before .before .before .before .before .before .args in
+      put-more (a .out .now) (a .at) (a .n) _ (omega arith) (c .sign2 .ensures) (omega arith) (omega arith) (c .before .before .before .put-decimal .ensures)
 
 pub +put-decimal-spec : {M : Type 1} → statement M
-+put-decimal-spec = close μ-put-decimal λ t. put-decimal-lts.spec (
-  sign-reads.Asked,
-  sign-reads.Learnt,
-  put-decimal-below t,
-  put-decimal.Post,
-)
-    (put-decimal-at t)
-    put-decimal.Post
-    (put-decimal-sign-requires t)
-    (put-decimal-slice-write-out t)
-    (put-decimal-add-result t)
-    (put-decimal-same-length t)
-    (put-decimal-returns t)
-    (put-decimal-put-decimal-requires t)
-    (put-decimal-sign-requires-2 t)
-    (put-decimal-slice-write-out-2 t)
-    (put-decimal-add-result-2 t)
-    (put-decimal-same-length-2 t)
-    (put-decimal-returns-2 t)
++put-decimal-spec =
+    close μ-put-decimal λ t.
+    put-decimal-lts.spec (claims t) (at t) put-decimal.Post
+    (sign-requires t)
+    (slice-write-out t)
+    (add-result t)
+    (same-length t)
+    (returns t)
+    (put-decimal-requires t)
+    (sign-requires-2 t)
+    (slice-write-out-2 t)
+    (add-result-2 t)
+    (same-length-2 t)
+    (returns-2 t)

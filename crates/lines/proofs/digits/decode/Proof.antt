@@ -5,7 +5,7 @@ use lib.ListN.{length, drop, length-set}
 use mathlib.Core.Bool.{true}
 use Rattle.octets.specs.Bytes.{overwrite}
 use Rattle.lines.specs.Digits.{allHex, decoded}
-use Rattle.lines.proofs.Signs.{hex-here, hex-rest, bytes-end, bytes-goes-on, bytes-length, pair-rest}
+use Rattle.lines.proofs.Hex.{hex-here, hex-rest, bytes-end, bytes-goes-on, bytes-length, pair-rest}
 use borrow.Author.Needs.{needs}
 use native.Mathlib.Omega.{arith}
 use Rattle.lines.proofs.digits.decode.Statement.{statement}
@@ -39,7 +39,7 @@ pair-requires : tie.Need-pair-requires Inv-loop μ-loop
 pair-requires c κs =
     let ds = c .before .before .before .before .before .before .args .digits .now in
     let l = c .before .before .before .loop in
-    (hex-here ds (2 * l .i) (l .inv .2) (omega arith), hex-here ds (2 * l .i + 1) (hex-rest ds (2 * l .i) (l .inv .2) (omega arith)) (omega arith))
+    (hex-here ds (2 * l .i) (omega arith) (l .inv .2), hex-here ds (2 * l .i + 1) (omega arith) (hex-rest ds (2 * l .i) (omega arith) (l .inv .2)))
 
 slice-write-out : tie.Need-slice-write-out Inv-loop μ-loop
 slice-write-out c = search needs
@@ -54,7 +54,7 @@ loop-again : tie.Need-loop-again Inv-loop μ-loop
 loop-again c =
     let ds = c .before .before .before .before .before .before .before .args .digits .now in
     let l = c .before .before .before .before .loop in
-    (omega arith, simp length-set (omega arith), pair-rest ds (l .i) (l .inv .2) (omega arith), bytes-goes-on ds (l .out) (l .i) (c .pair .ensures) (omega arith) (omega arith) ∙ l .inv .3)
+    (omega arith, simp length-set (omega arith), pair-rest ds (l .i) (omega arith) (l .inv .2), bytes-goes-on ds (l .out) (l .i) (c .pair .ensures) (omega arith) (omega arith) ∙ l .inv .3)
 
 same-length : tie.Need-same-length Inv-loop μ-loop
 same-length c = search needs

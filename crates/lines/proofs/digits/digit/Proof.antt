@@ -4,7 +4,7 @@ use borrow.Author.Tests.{leb-true}
 use lib.Dec.{leb}
 use Rattle.octets.proofs.Picks.{and-left}
 use Rattle.lines.specs.Digits.{digit}
-use Rattle.lines.proofs.Signs.{digit-decimal, digit-letter, digit-none}
+use Rattle.lines.proofs.Numbers.{digit-decimal, digit-letter, digit-none}
 use borrow.Author.Needs.{needs}
 use native.Mathlib.Omega.{arith}
 use Rattle.lines.proofs.digits.digit.Statement.{statement}
@@ -21,7 +21,7 @@ sub-result c =
 returns : tie.Need-returns
 returns c =
     let w = c .before .wide in
-    sym (ap digit (sym (w .ensures .0)) ∙ digit-decimal (w .result) (c .if1 .taken))
+    sym (digit-decimal (w .result) (c .if1 .taken)) ∙ ap digit (w .ensures .0)
 
 sub-result-2 : tie.Need-sub-result-2
 sub-result-2 c =
@@ -31,12 +31,12 @@ sub-result-2 c =
 returns-2 : tie.Need-returns-2
 returns-2 c =
     let w = c .before .before .wide in
-    sym (ap digit (sym (w .ensures .0)) ∙ digit-letter (w .result) (c .before .if1 .left) (c .if2 .taken))
+    sym (digit-letter (w .result) (c .before .if1 .left) (c .if2 .taken)) ∙ ap digit (w .ensures .0)
 
 returns-3 : tie.Need-returns-3
 returns-3 c =
     let w = c .before .before .wide in
-    sym (ap digit (sym (w .ensures .0)) ∙ digit-none (w .result) (c .before .if1 .left) (c .if2 .left))
+    sym (digit-none (w .result) (c .before .if1 .left) (c .if2 .left)) ∙ ap digit (w .ensures .0)
 
 pub digit-spec : {M : Type 1} → statement M
 digit-spec =

@@ -4,7 +4,7 @@ use Prim.Native.Nat.{_^_, _-_, _≤_, _<_}
 use native.Mathlib.Nat.{pow-zero}
 use lib.ListN.{length, drop}
 use Rattle.lines.specs.Digits.{numberFrom, numberOf, NumberFits}
-use Rattle.lines.proofs.Signs.{number-ends, number-goes-on, number-fails, one-more, number-small}
+use Rattle.lines.proofs.Numbers.{number-ends, number-goes-on, number-fails, one-more, number-small}
 use borrow.Author.Needs.{needs}
 use native.Mathlib.Omega.{arith}
 use Rattle.lines.proofs.digits.number_of.Statement.{statement}
@@ -31,17 +31,17 @@ unfolding NumberFits
 returns c =
     let s = c .before .before .before .before .before .before in
     let l = c .before .before .before .before .loop in
-    (sym (sym (l .inv .2) ∙ number-fails (s .args .base) (l .n) (s .args .digits .now) (l .i) (omega arith) (c .before .digit .ensures) (c .if1 .taken)), tt)
+    (sym (number-fails (s .args .base) (l .n) (s .args .digits .now) (l .i) (omega arith) (c .before .digit .ensures) (c .if1 .taken)) ∙ l .inv .2, tt)
 
 mul-n : tie.Need-mul-n Inv-loop μ-loop
 mul-n c =
     let l = c .before .before .before .before .loop in
-    omega (arith, number-small (c .before .before .before .before .before .before .args .base) (l .n) (c .before .digit .result) (l .i) (omega arith) (omega arith) (l .inv .1) (c .if1 .left))
+    omega (arith, number-small (c .before .before .before .before .before .before .args .base) (l .n) (c .before .digit .result) (l .i) (l .inv .1) (c .if1 .left) (omega arith) (omega arith))
 
 add-n : tie.Need-add-n Inv-loop μ-loop
 add-n c =
     let l = c .before .before .before .before .loop in
-    omega (arith, number-small (c .before .before .before .before .before .before .args .base) (l .n) (c .before .digit .result) (l .i) (omega arith) (omega arith) (l .inv .1) (c .if1 .left))
+    omega (arith, number-small (c .before .before .before .before .before .before .args .base) (l .n) (c .before .digit .result) (l .i) (l .inv .1) (c .if1 .left) (omega arith) (omega arith))
 
 add-i : tie.Need-add-i Inv-loop μ-loop
 add-i c = search needs
@@ -61,7 +61,7 @@ returns-2 c =
     let s = c .before .before .before in
     let l = c .before .loop in
     let e : l .i ≡ length (s .args .digits .now) = omega arith in
-    (sym (sym (l .inv .2) ∙ number-ends (s .args .base) (l .n) (s .args .digits .now) (l .i) (omega arith)), rw e at (l .inv .1))
+    (sym (number-ends (s .args .base) (l .n) (s .args .digits .now) (l .i) (omega arith)) ∙ l .inv .2, rw e at (l .inv .1))
 
 pub number-of-spec : {M : Type 1} → statement M
 number-of-spec =

@@ -5,7 +5,7 @@ use native.Mathlib.Nat.{add-zero}
 use lib.ListN.{length, drop, length-set}
 use Rattle.octets.specs.Bytes.{overwrite}
 use Rattle.lines.specs.Digits.{sign, hexOf}
-use Rattle.lines.proofs.Signs.{signs-end, signs-goes-on}
+use Rattle.lines.proofs.Hex.{signs-end, signs-goes-on}
 use borrow.Author.Needs.{needs}
 use native.Mathlib.Omega.{arith}
 use Rattle.lines.proofs.digits.put_hex.Statement.{statement}

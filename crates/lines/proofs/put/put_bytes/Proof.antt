@@ -1,9 +1,9 @@
 -- `lines::put::put_bytes` meets its contract: the name, the signs and the last byte are written one behind the other. Assumes nothing.
 use mathlib.Core.Path.{refl}
-use lib.ListN.{length-set}
-use Rattle.lines.specs.Digits.{hexOf}
-use Rattle.lines.proofs.Signs.{hex-length}
-use Rattle.lines.proofs.Written.{named-written, named-length}
+use Prim.Native.Nat.{_+_, _*_}
+use lib.ListN.{length, length-set}
+use Rattle.lines.proofs.Hex.{hex-length}
+use Rattle.lines.proofs.Written.{put, named-put}
 use borrow.Author.Needs.{needs}
 use native.Mathlib.Omega.{arith}
 use Rattle.lines.proofs.put.put_bytes.Statement.{statement}
@@ -35,11 +35,10 @@ same-length c = simp length-set (omega arith)
 
 returns : tie.Need-returns
 returns c =
-    let a = c .before .before .before .before .before .before .before .before .before .before .before .args in (
-      named-written (a .name .now) (hexOf (a .bytes .now)) (a .last) _ _ _ _ _ (c .before .before .before .before .before .before .copy .ensures) (c .before .before .put-hex .ensures) (omega (arith, hex-length (a .bytes .now))) (omega arith),
-      omega (arith, named-length (a .name .now) (hexOf (a .bytes .now)) (a .last), hex-length (a .bytes .now)),
-      refl,
-    )
+    let a = c .before .before .before .before .before .before .before .before .before .before .before .args in
+    let l = hex-length (a .bytes .now) in
+    let w = named-put {r = a .at + length (a .name .now) + 2 * length (a .bytes .now)} (a .last) (put (c .before .before .before .before .before .before .copy .ensures) refl) (put (c .before .before .put-hex .ensures) (omega arith)) in
+    (w .memory (omega arith), w .place, refl)
 
 pub put-bytes-spec : {M : Type 1} → statement M
 put-bytes-spec =

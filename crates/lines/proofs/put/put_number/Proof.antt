@@ -1,9 +1,10 @@
 -- `lines::put::put_number` meets its contract: the name, the digits and the last byte are written one behind the other. Assumes nothing.
+use mathlib.Core.Path.{refl}
 use Prim.Native.Nat.{_+_}
-use lib.ListN.{length-set}
+use lib.ListN.{length, length-set}
 use Rattle.lines.specs.Digits.{decimal}
-use Rattle.lines.proofs.Signs.{decimal-length}
-use Rattle.lines.proofs.Written.{named-written, named-length}
+use Rattle.lines.proofs.Decimal.{place-most}
+use Rattle.lines.proofs.Written.{put, named-put}
 use borrow.Author.Needs.{needs}
 use native.Mathlib.Omega.{arith}
 use Rattle.lines.proofs.put.put_number.Statement.{statement}
@@ -19,18 +20,14 @@ put-decimal-requires : tie.Need-put-decimal-requires
 put-decimal-requires c κs = search needs
 
 slice-write-out : tie.Need-slice-write-out
-unfolding decimal
 slice-write-out c =
-    let n = c .before .before .before .before .before .before .before .before .before .before .args .n in
-    let p = c .before .before .put-decimal .ensures (n + 1) (omega arith) in
-    omega (arith, decimal-length 19 (n + 1) n (omega arith))
+    let a = c .before .before .before .before .before .before .before .before .before .before .args in
+    omega (arith, place-most _ (a .at + length (a .name .now)) (a .n) 19 (omega arith) (c .before .before .put-decimal .ensures))
 
 add-result : tie.Need-add-result
-unfolding decimal
 add-result c =
-    let n = c .before .before .before .before .before .before .before .before .before .before .args .n in
-    let p = c .before .before .put-decimal .ensures (n + 1) (omega arith) in
-    omega (arith, decimal-length 19 (n + 1) n (omega arith))
+    let a = c .before .before .before .before .before .before .before .before .before .before .args in
+    omega (arith, place-most _ (a .at + length (a .name .now)) (a .n) 19 (omega arith) (c .before .before .put-decimal .ensures))
 
 same-length : tie.Need-same-length
 same-length c = simp length-set (omega arith)
@@ -39,10 +36,11 @@ returns : tie.Need-returns
 unfolding decimal
 returns c =
     let a = c .before .before .before .before .before .before .before .before .before .before .args in
-    let p = c .before .before .put-decimal .ensures (a .n + 1) (omega arith) in
-    let l = decimal-length 19 (a .n + 1) (a .n) (omega arith) in
-    let e = named-length (a .name .now) (decimal (a .n)) (a .last) in
-    (named-written (a .name .now) (decimal (a .n)) (a .last) _ _ _ _ _ (c .before .before .before .before .before .before .copy .ensures) (p .0) (p .1) (omega arith), omega arith, omega arith)
+    let p = c .before .before .put-decimal .ensures in
+    let d = p (a .n + 1) (omega arith) in
+    let l = place-most _ (a .at + length (a .name .now)) (a .n) 19 (omega arith) p in
+    let w = named-put (a .last) (put (c .before .before .before .before .before .before .copy .ensures) refl) (put (d .0) (d .1)) in
+    (w .memory (omega arith), w .place, omega arith)
 
 pub put-number-spec : {M : Type 1} → statement M
 put-number-spec =

@@ -24,7 +24,7 @@ shared-slice-read-if1 c = search needs
 returns : tie.Need-returns Inv-loop μ-loop
 returns c =
     let l = c .before .before .before .loop in
-    (sym (sym (l .inv .2) ∙ line-here (c .before .before .before .before .args .input .now) (l .at) (omega arith) (c .if1 .taken)), omega arith, omega arith)
+    (sym (line-here (c .before .before .before .before .args .input .now) (l .at) (omega arith) (c .if1 .taken)) ∙ l .inv .2, omega arith, omega arith)
 
 add-at : tie.Need-add-at Inv-loop μ-loop
 add-at c = search needs
@@ -35,12 +35,12 @@ loop-less c = search needs
 loop-again : tie.Need-loop-again Inv-loop μ-loop
 loop-again c =
     let l = c .before .before .before .loop in
-    (omega arith, omega arith, sym (line-goes-on (c .before .before .before .before .args .input .now) (l .at) (omega arith) (c .if1 .left)) ∙ l .inv .2)
+    (omega arith, omega arith, line-goes-on (c .before .before .before .before .args .input .now) (l .at) (omega arith) (c .if1 .left) ∙ l .inv .2)
 
 returns-2 : tie.Need-returns-2 Inv-loop μ-loop
 returns-2 c =
     let l = c .before .loop in
-    (sym (sym (l .inv .2) ∙ line-ends (c .before .before .args .input .now) (l .at) (omega arith)), omega arith, omega arith)
+    (sym (line-ends (c .before .before .args .input .now) (l .at) (omega arith)) ∙ l .inv .2, omega arith, omega arith)
 
 pub line-end-spec : {M : Type 1} → statement M
 line-end-spec =

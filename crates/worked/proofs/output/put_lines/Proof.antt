@@ -1,11 +1,12 @@
 -- `worked::output::put_lines` meets its contract: the five lines are written one behind the other. Assumes nothing.
 use mathlib.Core.Path.{ap₂, _∙_}
-use Prim.Native.Nat.{ℕ}
+use Prim.Native.Nat.{ℕ, _≤_}
+use native.Mathlib.Nat.{zero-add}
 use lib.ListN.{length}
 use Rattle.octets.specs.Bytes.{overwrite}
 use Rattle.lines.specs.Digits.{ascii}
-use Rattle.lines.proofs.Written.{five-written, five-length}
-use Rattle.worked.specs.Printed.{fiveLines}
+use Rattle.lines.proofs.Written.{put, behind}
+use Rattle.worked.specs.Printed.{fiveLines, mostPrinted}
 use borrow.Author.Needs.{needs}
 use native.Mathlib.Omega.{arith}
 use Rattle.worked.proofs.output.put_lines.Statement.{statement}
@@ -53,19 +54,20 @@ same-length c = search needs
 returns : tie.Need-returns
 unfolding fiveLines ascii
 returns c =
-    let a = c .before .before .before .before .before .before .before .before .before .before .before .before .before .before .before .before .before .before .before .before .before .before .before .before .before .before .before .before .before .before .args in
+    let s = c .before .before .before .before .before .before .before .before .before .before .before .before .before .before .before .before .before .before .before .before .before .before .before .before .before .before .before .before .before .before in
+    let a = s .args in
     let p₁ = c .before .before .before .before .before .before .before .before .before .before .before .before .before .before .before .before .before .before .before .before .before .before .before .before .put-number .ensures in
     let p₂ = c .before .before .before .before .before .before .before .before .before .before .before .before .before .before .before .before .before .before .before .put-number2 .ensures in
     let p₃ = c .before .before .before .before .before .before .before .before .before .before .before .before .before .before .put-bytes .ensures in
-    let u = c .before .before .before .before .before .before .before .before .before .used-bytes .ensures .0 in
     let p₄ = c .before .before .before .before .before .before .before .before .put-number3 .ensures in
-    let s = c .before .before .before .scripts-on-trial .ensures .0 in
-    let p₅ = c .before .before .put-number4 .ensures in (
-      five-written _ _ _ _ _ _ _ _ _ _ _ _ _ _ _ _ (p₁ .0) (p₁ .1) (p₂ .0) (p₂ .1) (p₃ .0) (p₃ .1) (p₄ .0) (p₄ .1) (p₅ .0) (p₅ .1) (omega (arith, p₁ .2, p₂ .2, p₃ .2, p₄ .2, p₅ .2, c .before .before .before .before .before .before .before .before .before .before .before .before .before .before .before .before .before .before .before .before .before .before .before .before .before .before .before .before .before .before .pre))
-          ∙ ap₂ (λ (x y : ℕ). overwrite (a .out .now) 0 (fiveLines (a .refusal) (a .executed) (a .response .now) x y)) u s,
-      five-length _ _ _ _ _ _ _ _ _ _ _ _ _ _ _ _ (p₁ .0) (p₁ .1) (p₂ .0) (p₂ .1) (p₃ .0) (p₃ .1) (p₄ .0) (p₄ .1) (p₅ .0) (p₅ .1) (omega (arith, p₁ .2, p₂ .2, p₃ .2, p₄ .2, p₅ .2, c .before .before .before .before .before .before .before .before .before .before .before .before .before .before .before .before .before .before .before .before .before .before .before .before .before .before .before .before .before .before .pre))
-          ∙ ap₂ (λ (x y : ℕ). length (fiveLines (a .refusal) (a .executed) (a .response .now) x y)) u s,
-      omega (arith, p₁ .2, p₂ .2, p₃ .2, p₄ .2, p₅ .2, c .before .before .before .before .before .before .before .before .before .before .before .before .before .before .before .before .before .before .before .before .before .before .before .before .before .before .before .before .before .before .pre),
+    let p₅ = c .before .before .put-number4 .ensures in
+    let u = c .before .before .before .before .before .before .before .before .before .used-bytes .ensures .0 in
+    let t = c .before .before .before .scripts-on-trial .ensures .0 in
+    let w = behind (put (p₁ .0) (p₁ .1)) (behind (put (p₂ .0) (p₂ .1)) (behind (put (p₃ .0) (p₃ .1)) (behind (put (p₄ .0) (p₄ .1)) (put (p₅ .0) (p₅ .1))))) in
+    let most : c .before .before .put-number4 .result ≤ mostPrinted = omega (arith, p₁ .2, p₂ .2, p₃ .2, p₄ .2, p₅ .2, s .pre) in (
+      w .memory (omega (arith, most, s .pre)) ∙ ap₂ (λ (x y : ℕ). overwrite (a .out .now) 0 (fiveLines (a .refusal) (a .executed) (a .response .now) x y)) u t,
+      w .place ∙ zero-add _ ∙ ap₂ (λ (x y : ℕ). length (fiveLines (a .refusal) (a .executed) (a .response .now) x y)) u t,
+      most,
     )
 
 pub put-lines-spec : {M : Type 1} → statement M

@@ -4,10 +4,9 @@ use lib.ListN.{length}
 use lib.Seq.{length-take-le}
 use Rattle.octets.specs.Bytes.{overwrite}
 use Rattle.engine.specs.Calls.{Result}
-use Rattle.engine.specs.Worked.{answerOf}
-use Rattle.lines.proofs.Answers.{answer-fits}
-use Rattle.worked.specs.Printed.{resultLines}
-use Rattle.worked.proofs.Ran.{ran}
+use Rattle.engine.specs.Worked.{worked, answerOf}
+use Rattle.lines.proofs.Answers.{answer-fits, ran}
+use Rattle.worked.specs.Printed.{resultLines, ranOn}
 use borrow.Author.Needs.{needs}
 use native.Mathlib.Omega.{arith}
 use Rattle.worked.proofs.runs.put_run.Statement.{statement}
@@ -54,10 +53,10 @@ same-length : tie.Need-same-length
 same-length c = search needs
 
 returns : tie.Need-returns
-unfolding resultLines answerOf
+unfolding resultLines answerOf ranOn worked
 returns c =
     let a = c .before .before .before .before .before .before .before .before .before .before .before .before .before .before .before .before .before .before .before .args in
-    let e = ran (a .call) (a .script .now) _ _ _ (c .before .before .before .before .before .before .before .before .before .before .before .before .before .before .before .before .worked-table .ensures .0) (c .before .before .before .before .before .before .before .before .before .before .before .before .before .before .before .worked-files .ensures .0) (c .before .before .before .before .before .before .before .before .before .before .run .ensures .0) in
+    let e = ran _ _ _ _ _ (c .before .before .before .before .before .before .before .before .before .before .before .before .before .before .before .before .worked-table .ensures .0) (c .before .before .before .before .before .before .before .before .before .before .before .before .before .before .before .worked-files .ensures .0) (c .before .before .before .before .before .before .before .before .before .before .run .ensures .0) in
     let p = c .before .before .put-lines .ensures in
     (p .0 ∙ ap (λ (r : Result). overwrite (a .out .now) 0 (resultLines r)) e, p .1 ∙ ap (λ (r : Result). length (resultLines r)) e, p .2)
 

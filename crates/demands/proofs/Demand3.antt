@@ -1,4 +1,4 @@
--- A take-back after an accepted run gives back the card from before it; and with the laws of refused calls, demand 3 for every history of scripts that are bytes. Assumes nothing.
+-- Demand 3: a take-back after an accepted run gives back the card from before it; and with the laws of refused calls, every history of scripts that are bytes. Assumes nothing.
 use Prim.Native.Nat.{ℕ, _<_}
 use mathlib.Core.Path.{_≡_, refl, sym, ap, _∙_}
 use mathlib.Core.List.{List, []}
@@ -6,7 +6,7 @@ use native.Mathlib.Omega.{arith}
 use Rattle.octets.specs.Bytes.{byte}
 use Rattle.card.specs.Row.{Card}
 use Rattle.tlv.specs.Templates.{templateOf}
-use Rattle.journal.specs.Changes.{withJournal, marked}
+use Rattle.journal.specs.Changes.{withJournal}
 use Rattle.journal.proofs.Parts.{card-table}
 use Rattle.journal.proofs.Undone.{back-mark}
 use Rattle.session.specs.declared.Session.{Session}
@@ -19,6 +19,7 @@ use Rattle.expanded.proofs.Runs as expanded
 use Rattle.engine.specs.Numbers.{Arguments, formatOf, firstGiven, runRefusals}
 use Rattle.engine.specs.Calls.{Result, gives, numbered, accepted, runScript}
 use Rattle.demands.specs.Given.{running, takingBack, given, number}
+use Rattle.demands.specs.Demand2.{withMark}
 use Rattle.demands.specs.Demand3.{InBytes, Demand3}
 use Rattle.demands.proofs.History.{Laws, replayed}
 use Rattle.session.proofs.Good.{good-start}
@@ -33,7 +34,7 @@ module _ (a : Arguments) (c : Card) (small : (i : ℕ) → byte (a .script) i < 
   free = sym (run-number a c) ∙ ok
 
   -- the mark is on the card
-  begins : Holds c (start (a .application)) startWaiting (withJournal c (marked (c .journal)))
+  begins : Holds c (start (a .application)) startWaiting (withMark c)
   unfolding startWaiting
   begins =
       record {
@@ -45,7 +46,7 @@ module _ (a : Arguments) (c : Card) (small : (i : ℕ) → byte (a .script) i < 
       }
 
   -- and what holds at the script's start holds at its end
-  ends : (f : Format) → (s : Session) × (waiting : List ℕ) × Holds c s waiting (runScript f a (withJournal c (marked (c .journal))) .card)
+  ends : (f : Format) → (s : Session) × (waiting : List ℕ) × Holds c s waiting (runScript f a (withMark c) .card)
   unfolding runScript accepted
   ends Compact = (_, _, compact.run-keeps (a .script) small c (a .application) (a .domain) _ begins)
   ends Expanded = (_, _, expanded.run-keeps (a .script) small c (templateOf (a .script)) (a .application) (a .domain) _ begins)
@@ -53,7 +54,7 @@ module _ (a : Arguments) (c : Card) (small : (i : ℕ) → byte (a .script) i < 
 taken-back : (a : Arguments) (c : Card) → InBytes (running a) → number (given (running a) c) ≡ 0 → given takingBack (given (running a) c .card) ≡ gives (numbered 0) c []
 unfolding given
 taken-back a c small ok =
-    let d = runScript (formatOf (a .format)) a (withJournal c (marked (c .journal))) .card in
+    let d = runScript (formatOf (a .format)) a (withMark c) .card in
     let h = ends a c small ok (formatOf (a .format)) .2 in
     ap (λ (r : Result). given takingBack (r .card)) (run-done a c ok)
     ∙ back-done d (h .sound) (λ z. let t = h .trial in omega arith)
