@@ -39,6 +39,7 @@ static const uint8_t increase[] = {
 
 static int status;
 
+/* Prints a line, and whether it is as the paper has it. */
 static void check(int as_in_paper, const char *line)
 {
     printf("%s%s\n", as_in_paper ? "" : "WRONG: ", line);

@@ -15,6 +15,7 @@ enum {
     JOURNAL_SIZE = 2048, JOURNAL_HEAD = 4, MOST_USED = 2044, MOST_TRIALS = 16, TAIL_SIZE = 8,
     MOST_OLD = 255
 };
+
 /* The bytes of a table entry. */
 enum {
     AT_PARENT = 2, AT_KIND = 3, AT_START = 4, AT_LENGTH = 6, AT_RECORD_LENGTH = 8, AT_NEWEST = 9,
@@ -22,6 +23,13 @@ enum {
 };
 enum { MF = 1, DF = 2, ADF = 3, TRANSPARENT = 4, LINEAR = 5, CYCLIC = 6 };
 enum { DEACTIVATED = 4, ACTIVATED = 5 };
+enum { NEVER_READ = 1, NEVER_UPDATE = 2, NEVER_ALL = 31 };
+enum { ID_MF = 0x3F00, ID_RESERVED = 0x3FFF, ID_ADF = 0x7FFF };
+
+/* The journal's byte with the scripts on trial, after U; the bytes of an entry's tail, after its
+ * kind; the kinds. */
+enum { AT_SCRIPTS = 2 };
+enum { AT_PLACE = 2, AT_N = 4 };
 enum { MARK = 1, FILE_BYTES = 2, TABLE_BYTE = 3 };
 
 /* Bytes behind each lent memory that no call may change either. */
@@ -36,6 +44,7 @@ struct card {
     struct memory table, files, journal;
 };
 
+/* Reads and writes a number of two bytes. */
 static inline unsigned number_at(const uint8_t *at) { return at[0] * 256u + at[1]; }
 
 static inline void put_number(uint8_t *at, size_t number)
@@ -44,6 +53,7 @@ static inline void put_number(uint8_t *at, size_t number)
     at[1] = (uint8_t)number;
 }
 
+/* The entries of a table, and the bytes of one: to be written, or not. */
 static inline size_t entries_of(const struct card *card) { return card->table.length / ENTRY_SIZE; }
 
 static inline uint8_t *entry_at(struct card *card, size_t number)
@@ -56,6 +66,7 @@ static inline const uint8_t *entry_of(const struct card *card, size_t number)
     return card->table.at + number * ENTRY_SIZE;
 }
 
+/* Kinds 1 to 3. */
 static inline bool is_directory(const uint8_t *entry) { return entry[AT_KIND] <= ADF; }
 
 /* The records of a record file; 0 for another entry. */
@@ -66,7 +77,20 @@ static inline unsigned record_count(const uint8_t *entry)
     return record_length == 0 ? 0 : number_at(entry + AT_LENGTH) / record_length;
 }
 
+/* The smaller of two numbers. */
 static inline size_t smaller(size_t a, size_t b) { return a < b ? a : b; }
+
+/* ---- Commands ---- */
+
+enum {
+    SELECT = 0xA4, READ_BINARY = 0xB0, UPDATE_BINARY = 0xD6, READ_RECORD = 0xB2,
+    UPDATE_RECORD = 0xDC, SEARCH = 0xA2, INCREASE = 0x32, DEACTIVATE = 0x04, ACTIVATE = 0x44,
+    GET_RESPONSE = 0xC0
+};
+enum { BY_IDENTIFIER = 0x00, PATH_FROM_ROOT = 0x08, PATH_FROM_DIRECTORY = 0x09 };
+enum { WITH_FCP = 0x04, NO_DATA = 0x0C };
+enum { NEXT = 0x02, PREVIOUS = 0x03, ABSOLUTE = 0x04, FORWARD = 0x04, BACKWARD = 0x05 };
+enum { HEADER_SIZE = 5 };
 
 /* ---- Calls and histories ---- */
 
@@ -78,6 +102,16 @@ struct script {
 };
 
 enum call_kind { RUN, TAKE_BACK, CONFIRM, CALL_KINDS };
+
+/* The three calls of one of the two programs, as rfm.h and second.h have them. */
+typedef uint64_t run_call(uint8_t *, size_t, uint8_t *, size_t, uint8_t *, size_t, size_t, uint8_t,
+                          uint8_t, const uint8_t *, size_t, uint8_t *, size_t);
+typedef uint64_t card_call(uint8_t *, size_t, uint8_t *, size_t, uint8_t *, size_t);
+
+struct program {
+    run_call *run;
+    card_call *take_back, *confirm;
+};
 
 struct call {
     enum call_kind kind;

@@ -3,22 +3,23 @@
 
 #include "rfm.h"
 
-/* The answer's word and the command that gave it, which is the last one counted. */
+/* Notes a compact answer's word with the command that gave it, which is the last one counted. */
 static bool note_compact(const struct script *script, const uint8_t *response, uint32_t count)
 {
     size_t place = 0;
 
-    for (; count > 1 && place + 5 <= script->length; count--) {
-        switch (script->at[place + 1]) {
-        case 0xA4:
-        case 0xD6:
-        case 0xDC:
-        case 0xA2:
-        case 0x32:
-            place += 5u + script->at[place + 4];
+    for (; count > 1 && place + HEADER_SIZE <= script->length; count--) {
+        const uint8_t *header = script->at + place;
+        place += HEADER_SIZE;
+        switch (header[1]) {
+        case SELECT:
+        case UPDATE_BINARY:
+        case UPDATE_RECORD:
+        case SEARCH:
+        case INCREASE:
+            place += header[4];
             break;
         default:
-            place += 5;
             break;
         }
     }
@@ -35,6 +36,7 @@ struct reader {
     bool fits;
 };
 
+/* The next bytes; zeros, at most four, where there are not so many. */
 static const uint8_t *take(struct reader *reader, size_t length)
 {
     static const uint8_t none[4];
@@ -67,7 +69,7 @@ static bool is_case_2_or_4(const uint8_t *apdu, size_t size)
     return size == 5 || (size > 5 && size == 6u + apdu[4] && apdu[size - 1] == 0);
 }
 
-/* The words of the R-APDUs, each with the command that gave it. AA leaves out those of case 1
+/* Notes the words of the R-APDUs, each with the command that gave it. AA leaves out those of case 1
  * and 3 and of a bad size before the last command. */
 static bool note_r_apdus(enum style style, struct reader script, struct reader answer,
                          uint32_t count)
@@ -97,6 +99,7 @@ static bool note_r_apdus(enum style style, struct reader script, struct reader a
     return answer.left == 0;
 }
 
+/* Notes the count and all words of an expanded answer. */
 static bool note_expanded(const struct script *script, const uint8_t *response, size_t length,
                           uint32_t count)
 {

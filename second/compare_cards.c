@@ -30,7 +30,7 @@ static uint8_t some_directory(const struct card *card, size_t entries, bool last
 /* Whether no further child of the parent may bear the identifier. */
 static bool is_taken(const struct card *card, size_t entries, uint8_t parent, unsigned identifier)
 {
-    if (identifier == 0x3F00 || identifier == 0x3FFF || identifier == 0x7FFF)
+    if (identifier == ID_MF || identifier == ID_RESERVED || identifier == ID_ADF)
         return true;
     for (size_t number = 1; number < entries; number++) {
         const uint8_t *entry = entry_of(card, number);
@@ -74,7 +74,7 @@ static size_t make_file(uint8_t *entry, size_t most)
     if (one_in(6))
         entry[AT_STATE] = DEACTIVATED;
     if (one_in(5))
-        entry[AT_NEVER] = (uint8_t)(one_in(2) ? 1u << below(5) : below(32));
+        entry[AT_NEVER] = (uint8_t)(one_in(2) ? 1u << below(5) : below(NEVER_ALL + 1));
     return length;
 }
 
@@ -86,12 +86,12 @@ static size_t make_entry(struct card *card, size_t number, bool deep, size_t mos
     memset(entry, 0, ENTRY_SIZE);
     entry[AT_STATE] = ACTIVATED;
     if (number == 0) {
-        put_number(entry, 0x3F00);
+        put_number(entry, ID_MF);
         entry[AT_KIND] = MF;
         return 0;
     }
     if (one_in(8)) {
-        put_number(entry, 0x7FFF);
+        put_number(entry, ID_ADF);
         entry[AT_KIND] = ADF;
         return 0;
     }

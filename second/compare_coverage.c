@@ -34,6 +34,7 @@ static const struct {
 
 static const char *const styles[STYLES] = {"compact", "expanded, AA", "expanded, AE"};
 
+/* Whether the paper allows a pair. */
 static bool allowed(enum style style, size_t row, size_t column)
 {
     const char cell = rows[row].allowed[column * CELL];
@@ -84,6 +85,7 @@ bool note_bad_format(enum style style, unsigned code)
     return true;
 }
 
+/* Notes a count, if it is one that must be reached. */
 void note_count(enum style style, uint32_t count)
 {
     reached.counts[style][0] += count == 0;
@@ -124,6 +126,7 @@ static void print_reached(unsigned long times)
         printf(" %5luk", times / 1000);
 }
 
+/* Prints how often each pair was reached. */
 static void print_pairs(enum style style)
 {
     printf("\n%-12s", styles[style]);
@@ -144,6 +147,7 @@ static void print_pairs(enum style style)
     printf("\n");
 }
 
+/* Prints how often each call number was reached. */
 static void print_numbers(void)
 {
     printf("\n%-12s", "number");

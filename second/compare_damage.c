@@ -49,7 +49,7 @@ static void push_byte(struct card *card)
         entry[AT_STATE] = (uint8_t)(ACTIVATED + below(2));
         break;
     case 3:
-        entry[AT_NEVER] = (uint8_t)(0x1F + below(2));
+        entry[AT_NEVER] = (uint8_t)(NEVER_ALL + below(2));
         break;
     default:
         entry[AT_RECORD_LENGTH] = (uint8_t)below(2);
@@ -60,7 +60,7 @@ static void push_byte(struct card *card)
 /* Gives an entry another one's identifier or a reserved one, or another parent. */
 static void misplace(struct card *card)
 {
-    static const uint16_t reserved[] = {0x3F00, 0x3FFF, 0x7FFF};
+    static const uint16_t reserved[] = {ID_MF, ID_RESERVED, ID_ADF};
     const size_t number = some_entry(card, DF), other = some_entry(card, DF);
     uint8_t *entry = entry_at(card, number);
 
@@ -122,6 +122,7 @@ static void resize(struct memory *memory, size_t largest)
     }
 }
 
+/* Gives one of the three memories another length. */
 static void resize_one(struct card *card)
 {
     switch (below(3)) {

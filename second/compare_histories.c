@@ -50,7 +50,8 @@ static void make_run(struct call *call, const struct card *now)
 static void make_next(struct call *call, const struct card *now)
 {
     const uint8_t *journal = now->journal.at;
-    const bool full = journal[2] == MOST_TRIALS || number_at(journal) + TAIL_SIZE > MOST_USED;
+    const bool full =
+        journal[AT_SCRIPTS] == MOST_TRIALS || number_at(journal) + TAIL_SIZE > MOST_USED;
 
     call->kind = one_in(full ? 2 : take_backs) ? TAKE_BACK : one_in(30) ? CONFIRM : RUN;
     if (call->kind == RUN)

@@ -9,22 +9,24 @@ struct journal_entry {
     uint8_t old[MOST_OLD + 1];
 };
 
+/* U. */
 static unsigned used_of(const struct card *card) { return number_at(card->journal.at); }
 
 /* Appends an entry if it finds room. */
 static void append(struct card *card, const struct journal_entry *entry)
 {
     uint8_t *journal = card->journal.at;
-    const size_t used = used_of(card), n = number_at(entry->tail + 4);
+    const size_t used = used_of(card), n = number_at(entry->tail + AT_N);
 
     if (used + n + TAIL_SIZE > MOST_USED)
         return;
     memcpy(journal + JOURNAL_HEAD + used, entry->old, n);
     memcpy(journal + JOURNAL_HEAD + used + n, entry->tail, TAIL_SIZE);
     put_number(journal, used + n + TAIL_SIZE);
-    journal[2] += entry->tail[0] == MARK;
+    journal[AT_SCRIPTS] += entry->tail[0] == MARK;
 }
 
+/* A script's start. */
 static void draw_mark(struct journal_entry *entry)
 {
     memset(entry->tail, 0, TAIL_SIZE);
@@ -39,8 +41,8 @@ static void draw_file_bytes(const struct card *card, size_t most, struct journal
 
     memset(entry->tail, 0, TAIL_SIZE);
     entry->tail[0] = FILE_BYTES;
-    put_number(entry->tail + 2, between(0, card->files.length - n));
-    put_number(entry->tail + 4, n);
+    put_number(entry->tail + AT_PLACE, between(0, card->files.length - n));
+    put_number(entry->tail + AT_N, n);
     memset(entry->old, telling_byte(), n);
     entry->old[0] = telling_byte();
 }
@@ -53,8 +55,8 @@ static void draw_table_byte(const struct card *card, size_t file, struct journal
 
     memset(entry->tail, 0, TAIL_SIZE);
     entry->tail[0] = TABLE_BYTE;
-    put_number(entry->tail + 2, file * ENTRY_SIZE + (newest ? AT_NEWEST : AT_STATE));
-    entry->tail[5] = 1;
+    put_number(entry->tail + AT_PLACE, file * ENTRY_SIZE + (newest ? AT_NEWEST : AT_STATE));
+    put_number(entry->tail + AT_N, 1);
     entry->old[0] = (uint8_t)(newest ? between(0, record_count(of) - 1)
                                      : between(DEACTIVATED, ACTIVATED));
 }
@@ -62,7 +64,7 @@ static void draw_table_byte(const struct card *card, size_t file, struct journal
 /* Names byte 9 instead of byte 10, with an old value that is just too large or zero. */
 static void spoil_newest(const struct card *card, struct journal_entry *entry)
 {
-    const uint8_t *of = entry_of(card, number_at(entry->tail + 2) / ENTRY_SIZE);
+    const uint8_t *of = entry_of(card, number_at(entry->tail + AT_PLACE) / ENTRY_SIZE);
 
     entry->tail[3] = (uint8_t)((entry->tail[3] & 0xF0) | AT_NEWEST);
     entry->old[0] = (uint8_t)(of[AT_KIND] == CYCLIC ? record_count(of) : 0);
@@ -73,7 +75,7 @@ static void spoil(const struct card *card, struct journal_entry *entry)
 {
     static const uint8_t zeros[] = {1, 6, 7};
     uint8_t *tail = entry->tail;
-    const size_t n = number_at(tail + 4), place = number_at(tail + 2);
+    const size_t n = number_at(tail + AT_N), place = number_at(tail + AT_PLACE);
     const size_t memory = tail[0] == FILE_BYTES ? card->files.length : card->table.length;
 
     if (tail[0] == TABLE_BYTE && one_in(2)) {
@@ -88,20 +90,20 @@ static void spoil(const struct card *card, struct journal_entry *entry)
         tail[zeros[below(sizeof zeros)]] = 1;
         break;
     case 2: /* out of its memory by one, or anywhere */
-        put_number(tail + 2, one_in(2) ? memory - n + 1 : below((uint32_t)memory + 20));
+        put_number(tail + AT_PLACE, one_in(2) ? memory - n + 1 : below((uint32_t)memory + 20));
         break;
     case 3: /* the place beside */
-        put_number(tail + 2, place + between(0, 2) - 1);
+        put_number(tail + AT_PLACE, place + between(0, 2) - 1);
         break;
     case 4: /* a directory's state */
-        put_number(tail + 2, some_entry(card, DF) * ENTRY_SIZE + AT_STATE);
+        put_number(tail + AT_PLACE, some_entry(card, DF) * ENTRY_SIZE + AT_STATE);
         break;
     case 5: /* one old byte too many, or a wrong number of them */
         if (card->files.length > MOST_OLD) {
-            put_number(tail + 2, 0);
-            put_number(tail + 4, MOST_OLD + 1);
+            put_number(tail + AT_PLACE, 0);
+            put_number(tail + AT_N, MOST_OLD + 1);
         } else {
-            put_number(tail + 4, n == 1 ? below(3) : 0);
+            put_number(tail + AT_N, n == 1 ? below(3) : 0);
         }
         break;
     default: /* an old value not sound there */

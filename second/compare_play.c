@@ -7,20 +7,13 @@
 #include "rfm.h"
 #include "second.h"
 
-/* The three calls of one of the two programs. */
-struct program {
-    uint64_t (*run)(uint8_t *, size_t, uint8_t *, size_t, uint8_t *, size_t, size_t, uint8_t,
-                    uint8_t, const uint8_t *, size_t, uint8_t *, size_t);
-    uint64_t (*take_back)(uint8_t *, size_t, uint8_t *, size_t, uint8_t *, size_t);
-    uint64_t (*confirm)(uint8_t *, size_t, uint8_t *, size_t, uint8_t *, size_t);
-};
-
 static const struct program library = {rfm_run, rfm_take_back, rfm_confirm};
 static const struct program second = {second_run, second_take_back, second_confirm};
 
 /* The answers to the calls of the history that was played last. */
 static struct answer library_answers[MOST_CALLS], second_answers[MOST_CALLS];
 
+/* One of them. */
 const struct answer *library_answer(size_t call) { return &library_answers[call]; }
 const struct answer *second_answer(size_t call) { return &second_answers[call]; }
 
@@ -31,6 +24,7 @@ static void copy_memory(struct memory *to, const struct memory *from)
     memcpy(to->at, from->at, from->length + MARGIN);
 }
 
+/* Copies the three memories. */
 static void copy_card(struct card *to, const struct card *from)
 {
     copy_memory(&to->table, &from->table);
@@ -90,12 +84,14 @@ static bool differ(struct difference *difference, const char *what, size_t place
     return false;
 }
 
+/* Whether two values are the same; if not, keeps the difference, as the next four do. */
 static bool same_value(const char *what, unsigned long library, unsigned long expected,
                        struct difference *difference)
 {
     return library == expected || differ(difference, what, NO_PLACE, library, expected);
 }
 
+/* Whether all bytes are the same. */
 static bool same_bytes(const char *what, const uint8_t *library, const uint8_t *expected,
                        size_t length, struct difference *difference)
 {
@@ -122,12 +118,14 @@ static bool same_answer(const struct answer *library, const struct answer *expec
            same_value("script kept", library->script_kept, true, difference);
 }
 
+/* Compares a lent memory and its margin. */
 static bool same_memory(const char *what, const struct memory *a, const struct memory *b,
                         struct difference *difference)
 {
     return same_bytes(what, a->at, b->at, a->length + MARGIN, difference);
 }
 
+/* Compares the three memories. */
 static bool same_card(const struct card *a, const struct card *b, struct difference *difference)
 {
     return same_memory("table", &a->table, &b->table, difference) &&

@@ -6,6 +6,7 @@
 
 #include "rfm.h"
 
+/* Prints bytes in hexadecimal. */
 static void print_hex(const uint8_t *at, size_t length)
 {
     for (size_t i = 0; i < length; i++)
@@ -28,6 +29,7 @@ static void print_memory(const char *what, const struct memory *memory)
     }
 }
 
+/* Prints what one of the two programs answered. */
 static void print_answer(const char *whose, const struct answer *answer)
 {
     printf("  %s: number %u, count %lu, length %lu, answer ", whose, RFM_NUMBER(answer->result),
@@ -36,6 +38,7 @@ static void print_answer(const char *whose, const struct answer *answer)
     printf("\n");
 }
 
+/* Prints a call and its two answers. */
 static void print_call(const struct history *history, size_t i)
 {
     static const char *const names[CALL_KINDS] = {
@@ -53,6 +56,7 @@ static void print_call(const struct history *history, size_t i)
     print_answer("second ", second_answer(i));
 }
 
+/* Prints where the two first differ. */
 static void print_difference(const struct difference *difference)
 {
     printf("difference%s in call %zu: %s",

@@ -3,6 +3,7 @@
 
 static uint64_t state;
 
+/* Starts anew from a seed. */
 void start_random(uint64_t seed) { state = seed; }
 
 /* 64 random bits (splitmix64). */
@@ -18,6 +19,7 @@ uint64_t random_bits(void)
 /* A number below the limit; 0 for the limit 0. */
 uint32_t below(uint32_t limit) { return (uint32_t)((random_bits() >> 32) * limit >> 32); }
 
+/* True once in so many times. */
 bool one_in(uint32_t times) { return below(times) == 0; }
 
 /* A number from the least to the most, each of these two once in four times. */

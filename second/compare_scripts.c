@@ -128,11 +128,11 @@ static void go_to(struct maker *maker, size_t entry, uint8_t p2)
     size_t length = path_to(card, maker->root, entry, path);
 
     if (length == 0 || (way == 0 && (target[AT_PARENT] == maker->directory || one_in(3)))) {
-        add_select(maker, FROM_ANYWHERE, target, 2, p2);
+        add_select(maker, BY_IDENTIFIER, target, 2, p2);
     } else if (way == 1) {
-        add_select(maker, FROM_ANYWHERE, entry_of(card, maker->root), 2, NO_DATA);
+        add_select(maker, BY_IDENTIFIER, entry_of(card, maker->root), 2, NO_DATA);
         for (size_t at = 0; at < length; at += 2)
-            add_select(maker, FROM_ANYWHERE, path + at, 2, p2);
+            add_select(maker, BY_IDENTIFIER, path + at, 2, p2);
     } else if (way == 2 && entry != maker->directory && lies_below(card, maker->directory, entry)) {
         length = path_to(card, maker->directory, entry, path);
         add_select(maker, PATH_FROM_DIRECTORY, path, length, p2);
@@ -209,15 +209,23 @@ static size_t r_apdu_size(size_t data)
 static bool fills_answers(const uint8_t *entry)
 {
     return entry[AT_KIND] == TRANSPARENT && entry[AT_STATE] == ACTIVATED &&
-           (entry[AT_NEVER] & 1) == 0 && number_at(entry + AT_LENGTH) >= 8;
+           (entry[AT_NEVER] & NEVER_READ) == 0 && number_at(entry + AT_LENGTH) >= 8;
 }
 
-/* Reads a file until the R-APDUs kept come close to 1,000 bytes, or to where their length or the
- * answer's is written in another form, and a last command. */
+/* Bytes of R-APDUs close to 1,000, or to where their length or the answer's is written in another
+ * form. */
+static size_t some_fill(void)
+{
+    if (!one_in(4))
+        return 994 + below(8);
+    const size_t form = one_in(2) ? 0x76 : 0xF6;
+    return form + below(16);
+}
+
+/* Reads a file until the R-APDUs kept come to such a number of bytes, and a last command. */
 static void full_answer(struct maker *maker)
 {
-    static const uint16_t forms[] = {0x76, 0xF6};
-    const size_t full = one_in(4) ? forms[below(2)] + below(16) : 994 + below(8);
+    const size_t full = some_fill();
     size_t file = some_target(maker), kept = maker->style == AE ? r_apdu_size(0) : 0;
     uint8_t path[2 * MOST_ENTRIES];
 

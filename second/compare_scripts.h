@@ -4,15 +4,6 @@
 
 #include "compare.h"
 
-enum {
-    SELECT = 0xA4, READ_BINARY = 0xB0, UPDATE_BINARY = 0xD6, READ_RECORD = 0xB2,
-    UPDATE_RECORD = 0xDC, SEARCH = 0xA2, INCREASE = 0x32, DEACTIVATE = 0x04, ACTIVATE = 0x44,
-    GET_RESPONSE = 0xC0
-};
-enum { FROM_ANYWHERE = 0x00, PATH_FROM_ROOT = 0x08, PATH_FROM_DIRECTORY = 0x09 };
-enum { WITH_FCP = 0x04, NO_DATA = 0x0C };
-enum { NEXT = 0x02, PREVIOUS = 0x03, ABSOLUTE = 0x04, FORWARD = 0x04, BACKWARD = 0x05 };
-
 struct command {
     uint8_t cla, ins, p1, p2, p3;
     uint8_t data[255]; /* P3 of them, in forms 3 and 4 */

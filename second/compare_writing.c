@@ -71,8 +71,9 @@ static void add_tlv(struct maker *maker, const uint8_t *apdu, size_t size, bool 
 /* Writes a command out in the maker's style. */
 void add_command(struct maker *maker, const struct command *command, enum flaw flaw)
 {
-    uint8_t apdu[5 + 255 + 2] = {command->cla, command->ins, command->p1, command->p2, command->p3};
-    size_t size = maker->style != COMPACT && command->form == 1 ? 4 : 5;
+    uint8_t apdu[HEADER_SIZE + sizeof command->data + 2] = {
+        command->cla, command->ins, command->p1, command->p2, command->p3};
+    size_t size = maker->style != COMPACT && command->form == 1 ? 4 : HEADER_SIZE;
 
     if (command->form >= 3) {
         memcpy(apdu + size, command->data, command->p3);

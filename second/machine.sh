@@ -3,12 +3,13 @@
 root=$(dirname "$(dirname "$(readlink -f "${BASH_SOURCE[0]}")")")
 kit=$(rt doc)
 kit=${kit%/docs/*}
+toolchain=$kit/on/$(uname -m)/toolchain
 
 # The compiler with its Debian packages, and what runs its programs.
 case $(uname -m) in
 aarch64)
     compiler=(x86_64-linux-gnu-gcc gcc-x86-64-linux-gnu libc6-dev-amd64-cross)
-    emulator=$kit/on/aarch64/toolchain/bin/qemu-x86_64
+    emulator=$toolchain/bin/qemu-x86_64
     ;;
 *)
     compiler=(cc gcc libc6-dev)
@@ -45,10 +46,9 @@ link() {
 # Runs an x86-64 program: run PROGRAM ARGUMENT..
 run() { ${emulator:+"$emulator"} "$@"; }
 
-# Runs one and writes a line with the address of each instruction to a file: trace FILE PROGRAM ARGUMENT..
+# Runs one by the emulator and writes a line for each instruction to a file: trace FILE PROGRAM ARGUMENT..
 trace() {
-    local emulator=${emulator:-qemu-x86_64} one=-one-insn-per-tb
-    need "$emulator" qemu-user
+    local one=-one-insn-per-tb
     case $("$emulator" -help) in *"$one"*) ;; *) one=-singlestep ;; esac # its name before version 8.1
     "$emulator" "$one" -d exec,nochain -D "$@"
 }

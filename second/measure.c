@@ -14,21 +14,14 @@
 #include <string.h>
 #include <ucontext.h>
 
-typedef uint64_t run_call(uint8_t *, size_t, uint8_t *, size_t, uint8_t *, size_t, size_t, uint8_t,
-                          uint8_t, const uint8_t *, size_t, uint8_t *, size_t);
-typedef uint64_t card_call(uint8_t *, size_t, uint8_t *, size_t, uint8_t *, size_t);
-
-static const struct side {
-    run_call *run;
-    card_call *take_back, *confirm;
-} sides[] = {{rfm_run, rfm_take_back, rfm_confirm}, {second_run, second_take_back, second_confirm}};
+static const struct program sides[] = {{rfm_run, rfm_take_back, rfm_confirm},
+                                       {second_run, second_take_back, second_confirm}};
 
 /* ---- The rows ---- */
 
-enum { SELECT = 0xA4, UPDATE = 0xD6, SEARCH = 0xA2, INCREASE = 0x32 };
 enum content { ZEROS, MIXED }; /* of file memory; mixed bytes are below 80 */
 enum { WORKED = 0 };           /* entries of the worked card, by name */
-enum place { LAST, MIDDLE };
+enum place { LAST, MIDDLE };   /* of the odd byte among a command's data */
 
 struct row {
     const char *group, *name;
@@ -41,8 +34,8 @@ struct row {
     size_t script_length;
     uint8_t ins;              /* SELECT once, or after its file's SELECT this to the end */
     size_t lc;
-    uint8_t fill, odd;        /* its data: all bytes but one, and that one, */
-    enum place place;         /* which stands there */
+    uint8_t fill, odd;        /* its data: all bytes but one, and that one */
+    enum place place;
 };
 
 #define CALL "call"
@@ -51,21 +44,21 @@ struct row {
 
 static const struct row rows[] = {
     {CALL, "run, refused with 2, journal empty",
-     RUN, 64, MIXED, 0, 0, 1, 0x01, COMPACT, 1024, UPDATE, 1, 0x5A, 0x5A, LAST},
+     RUN, 64, MIXED, 0, 0, 1, 0x01, COMPACT, 1024, UPDATE_BINARY, 1, 0x5A, 0x5A, LAST},
     {CALL, "run, refused with 5, journal full",
-     RUN, 64, MIXED, 2044, 15, 1, 0, COMPACT, 1024, UPDATE, 1, 0x5A, 0x5A, LAST},
+     RUN, 64, MIXED, 2044, 15, 1, 0, COMPACT, 1024, UPDATE_BINARY, 1, 0x5A, 0x5A, LAST},
     {CALL, "one command on the worked card, compact",
      RUN, WORKED, ZEROS, 0, 0, 0, 0, COMPACT, 7, SELECT, 2, 0, 0, LAST},
     {CALL, "one command on the worked card, expanded",
      RUN, WORKED, ZEROS, 0, 0, 0, 0, AA, 11, SELECT, 2, 0, 0, LAST},
     {CALL, "UPDATE of 1 byte",
-     RUN, 64, MIXED, 523, 15, 1, 0, COMPACT, 1024, UPDATE, 1, 0x5A, 0x5A, LAST},
+     RUN, 64, MIXED, 523, 15, 1, 0, COMPACT, 1024, UPDATE_BINARY, 1, 0x5A, 0x5A, LAST},
     {CALL, "UPDATE of 1 byte, expanded (AE)",
-     RUN, 64, MIXED, 908, 15, 1, 0, AE, 1024, UPDATE, 1, 0x5A, 0x5A, LAST},
+     RUN, 64, MIXED, 908, 15, 1, 0, AE, 1024, UPDATE_BINARY, 1, 0x5A, 0x5A, LAST},
     {CALL, "UPDATE of 1 byte until 6581",
-     RUN, 64, MIXED, 1500, 15, 1, 0, COMPACT, 1024, UPDATE, 1, 0x5A, 0x5A, LAST},
+     RUN, 64, MIXED, 1500, 15, 1, 0, COMPACT, 1024, UPDATE_BINARY, 1, 0x5A, 0x5A, LAST},
     {CALL, "UPDATE of 247 bytes",
-     RUN, 64, MIXED, 1015, 15, 1, 0, COMPACT, 1024, UPDATE, 247, 0x5A, 0x5A, LAST},
+     RUN, 64, MIXED, 1015, 15, 1, 0, COMPACT, 1024, UPDATE_BINARY, 247, 0x5A, 0x5A, LAST},
     {CALL, "SEARCH for 58 bytes, not found",
      RUN, 64, MIXED, 2036, 15, 1, 0, COMPACT, 1024, SEARCH, 58, 0x25, 0x80, LAST},
     {CALL, "SEARCH for 121 bytes, each place but for the last byte",
@@ -93,11 +86,11 @@ static const struct row rows[] = {
     {ENTRIES, "64",
      RUN, 64, MIXED, 0, 0, 0, 0, COMPACT, 7, SELECT, 2, 0, 0, LAST},
     {LENGTH, "64",
-     RUN, WORKED, ZEROS, 0, 0, 0, 0, COMPACT, 64, UPDATE, 1, 0x5A, 0x5A, LAST},
+     RUN, WORKED, ZEROS, 0, 0, 0, 0, COMPACT, 64, UPDATE_BINARY, 1, 0x5A, 0x5A, LAST},
     {LENGTH, "256",
-     RUN, WORKED, ZEROS, 0, 0, 0, 0, COMPACT, 256, UPDATE, 1, 0x5A, 0x5A, LAST},
+     RUN, WORKED, ZEROS, 0, 0, 0, 0, COMPACT, 256, UPDATE_BINARY, 1, 0x5A, 0x5A, LAST},
     {LENGTH, "1024",
-     RUN, WORKED, ZEROS, 0, 0, 0, 0, COMPACT, 1024, UPDATE, 1, 0x5A, 0x5A, LAST},
+     RUN, WORKED, ZEROS, 0, 0, 0, 0, COMPACT, 1024, UPDATE_BINARY, 1, 0x5A, 0x5A, LAST},
 };
 
 enum { ROWS = sizeof rows / sizeof rows[0], SIDES = sizeof sides / sizeof sides[0] };
@@ -125,13 +118,14 @@ static void put_entry(struct card *card, size_t number, unsigned identifier, siz
 /* The paper's worked card, but for the bytes in file memory. */
 static void make_worked_card(struct card *card)
 {
-    put_entry(card, 0, 0x3F00, 0, MF, 0, 0, 0);
+    put_entry(card, 0, ID_MF, 0, MF, 0, 0, 0);
     put_entry(card, 1, 0x7F10, 0, DF, 0, 0, 0);
     put_entry(card, 2, 0x6F46, 1, TRANSPARENT, 0, 17, 0);
     put_entry(card, 3, 0x6F3A, 1, LINEAR, 17, 12, 4);
     put_entry(card, 4, 0x6F39, 1, CYCLIC, 29, 9, 3);
-    put_entry(card, 5, 0x7FFF, 0, ADF, 0, 0, 0);
+    put_entry(card, 5, ID_ADF, 0, ADF, 0, 0, 0);
     put_entry(card, 6, 0x6F46, 5, TRANSPARENT, 38, 17, 0);
+    entry_at(card, 6)[AT_NEVER] = NEVER_UPDATE;
     card->table.length = 7 * ENTRY_SIZE;
     card->files.length = 55;
 }
@@ -142,9 +136,9 @@ static void put_directory(struct card *card, size_t number)
     static const uint8_t parents[DIRECTORIES] = {0, 0, 5, 0, 10, 15, 0, 20, 25, 0, 45, 0};
 
     if (number == 0)
-        put_entry(card, number, 0x3F00, 0, MF, 0, 0, 0);
+        put_entry(card, number, ID_MF, 0, MF, 0, 0, 0);
     else if (number % 15 == 0)
-        put_entry(card, number, 0x7FFF, 0, ADF, 0, 0, 0);
+        put_entry(card, number, ID_ADF, 0, ADF, 0, 0, 0);
     else
         put_entry(card, number, 0x7F00 + (unsigned)number, parents[number / DIRECTORY_STEP], DF,
                   0, 0, 0);
@@ -195,8 +189,8 @@ static void append(uint8_t *journal, uint8_t kind, size_t place, size_t n, uint8
 
     memset(tail - n, old, n);
     tail[0] = kind;
-    put_number(tail + 2, place);
-    put_number(tail + 4, n);
+    put_number(tail + AT_PLACE, place);
+    put_number(tail + AT_N, n);
     put_number(journal, used + n + TAIL_SIZE);
 }
 
@@ -207,8 +201,8 @@ static void make_journal_up_to(struct card *card, size_t used, size_t trials, si
     uint8_t *journal = card->journal.at;
 
     for (size_t i = 0; number_at(journal) < used; i++) {
-        if (journal[2] < trials) {
-            journal[2]++;
+        if (journal[AT_SCRIPTS] < trials) {
+            journal[AT_SCRIPTS]++;
             append(journal, MARK, 0, 0, 0);
         }
         const size_t left = used - number_at(journal), place = i * 499 % (MOST_FILES - MOST_OLD);
@@ -226,23 +220,23 @@ static void make_journal_up_to(struct card *card, size_t used, size_t trials, si
 
 /* ---- Scripts ---- */
 
-enum { HEADER = 5, TLV_HEAD = 2, TEMPLATE_HEAD = 2, TEMPLATE_END = 2 };
+enum { TLV_HEAD = 2, TEMPLATE_HEAD = 2, TEMPLATE_END = 2 };
 
 /* Appends a command, in a C-APDU's TLV of at most 127 bytes if the script is expanded. */
 static void add_command(struct call *call, uint8_t ins, uint8_t p1, uint8_t p2,
                         const uint8_t *data, size_t lc)
 {
     struct script *script = &call->script;
-    const uint8_t tlv[TLV_HEAD] = {0x22, (uint8_t)(HEADER + lc)};
-    const uint8_t header[HEADER] = {ins == INCREASE ? 0x80 : 0x00, ins, p1, p2, (uint8_t)lc};
+    const uint8_t tlv[TLV_HEAD] = {0x22, (uint8_t)(HEADER_SIZE + lc)};
+    const uint8_t header[HEADER_SIZE] = {ins == INCREASE ? 0x80 : 0x00, ins, p1, p2, (uint8_t)lc};
 
     if (call->format == 1) {
         memcpy(script->at + script->length, tlv, TLV_HEAD);
         script->length += TLV_HEAD;
     }
-    memcpy(script->at + script->length, header, HEADER);
-    memcpy(script->at + script->length + HEADER, data, lc);
-    script->length += HEADER + lc;
+    memcpy(script->at + script->length, header, HEADER_SIZE);
+    memcpy(script->at + script->length + HEADER_SIZE, data, lc);
+    script->length += HEADER_SIZE + lc;
 }
 
 /* Selects the file, then has the row's command as often as it fits; the last takes what is left. */
@@ -250,20 +244,23 @@ static void add_commands(struct call *call, const struct row *row, size_t end)
 {
     static const uint8_t worked_path[] = {0x7F, 0x10, 0x6F, 0x46};
     static const uint8_t large_path[] = {0x7F, 5, 0x7F, 10, 0x7F, 20, 0x7F, 35, 0x6F, LARGE_FILE};
-    const size_t head = call->format == 1 ? TLV_HEAD + HEADER : HEADER;
+    const size_t head = call->format == 1 ? TLV_HEAD + HEADER_SIZE : HEADER_SIZE;
     uint8_t data[MOST_SCRIPT];
 
     if (row->entries == WORKED)
-        add_command(call, SELECT, 0x08, 0x0C, worked_path, sizeof worked_path);
+        add_command(call, SELECT, PATH_FROM_ROOT, NO_DATA, worked_path, sizeof worked_path);
     else
-        add_command(call, SELECT, 0x08, 0x0C, large_path, sizeof large_path);
+        add_command(call, SELECT, PATH_FROM_ROOT, NO_DATA, large_path, sizeof large_path);
     memset(data, row->fill, sizeof data);
     while (call->script.length < end) {
         const size_t left = end - call->script.length;
         const size_t lc = left < 2 * (head + row->lc) ? left - head : row->lc;
         const size_t odd = row->place == LAST ? lc - 1 : lc / 2;
         data[odd] = row->odd;
-        add_command(call, row->ins, row->ins == SEARCH, row->ins == SEARCH ? 0x04 : 0x00, data, lc);
+        if (row->ins == SEARCH)
+            add_command(call, SEARCH, 1, FORWARD, data, lc);
+        else
+            add_command(call, row->ins, 0x00, 0x00, data, lc);
         data[odd] = row->fill;
     }
 }
@@ -281,7 +278,8 @@ static void make_row_script(struct call *call, const struct row *row)
         script->length = TEMPLATE_HEAD;
     }
     if (row->ins == SELECT)
-        add_command(call, SELECT, 0x00, 0x0C, row->entries == WORKED ? df : mf, sizeof mf);
+        add_command(call, SELECT, BY_IDENTIFIER, NO_DATA, row->entries == WORKED ? df : mf,
+                    sizeof mf);
     else
         add_commands(call, row, row->script_length - (row->style == AE ? TEMPLATE_END : 0));
     script->length = row->script_length; /* AE: the last two bytes are zero */
@@ -317,7 +315,8 @@ static void lend(const struct row *row, struct lent *lent)
         make_row_script(&lent->call, row);
 }
 
-static void make_call(const struct side *side, struct lent *lent)
+/* Makes the call by one of the two programs. */
+static void make_call(const struct program *side, struct lent *lent)
 {
     struct card *card = &lent->card;
     const struct call *call = &lent->call;
@@ -341,9 +340,10 @@ enum { STACK_SIZE = 1 << 16, PAGE = 4096, PAINT = 0xC7 };
 
 static _Alignas(PAGE) uint8_t stack[STACK_SIZE];
 static uint8_t *stack_top; /* where the caller's own frame begins */
-static const struct side *calling; /* or NULL */
+static const struct program *calling; /* or NULL */
 static struct lent *lending;
 
+/* What on_own_stack starts. */
 static void call_on_own_stack(void)
 {
     stack_top = __builtin_frame_address(0);
@@ -353,7 +353,7 @@ static void call_on_own_stack(void)
 
 /* Makes the call, or none, on a stack that always lies alike, as the instructions of a copy depend
  * on where it goes. */
-static void on_own_stack(const struct side *side, struct lent *lent)
+static void on_own_stack(const struct program *side, struct lent *lent)
 {
     ucontext_t here, there;
 
@@ -368,7 +368,7 @@ static void on_own_stack(const struct side *side, struct lent *lent)
 }
 
 /* Makes the call on a painted stack; answers how far the paint is gone, from its caller's frame. */
-static size_t deepest_stack(const struct side *side, struct lent *lent)
+static size_t deepest_stack(const struct program *side, struct lent *lent)
 {
     size_t untouched = 0;
 

@@ -47,8 +47,17 @@ enum {
     NEVER_ACTIVATE = 16, NEVER_ALL = 31
 };
 
+/* The journal's byte with the scripts on trial, after U. */
+enum { AT_SCRIPTS = 2 };
+
+/* The bytes of a journal entry's tail, after its kind. */
+enum { AT_PLACE = 2, AT_N = 4 };
+
 /* The kinds of a journal entry. */
 enum { MARK = 1, FILE_BYTES = 2, TABLE_BYTE = 3 };
+
+enum { COMPACT = 0, EXPANDED = 1 };
+enum { DOMAIN_OPEN = 0x00, DOMAIN_CLOSED = 0xFF };
 
 enum {
     SELECT = 0xA4, READ_BINARY = 0xB0, UPDATE_BINARY = 0xD6, READ_RECORD = 0xB2,
@@ -56,11 +65,12 @@ enum {
     ACTIVATE = 0x44, GET_RESPONSE = 0xC0
 };
 
-enum { FROM_ANYWHERE = 0x00, PATH_FROM_ROOT = 0x08, PATH_FROM_DIRECTORY = 0x09 };
+enum { BY_IDENTIFIER = 0x00, PATH_FROM_ROOT = 0x08, PATH_FROM_DIRECTORY = 0x09 };
 enum { WITH_FCP = 0x04, NO_DATA = 0x0C };
 enum { NEXT = 0x02, PREVIOUS = 0x03, ABSOLUTE = 0x04 };
 enum { FORWARD = 0x04, BACKWARD = 0x05 };
 
+/* The status words. */
 enum {
     NO_FAULT = 0x0000, /* no status word: go on with the next check */
     WELL = 0x9000, SHORT_OR_NONE = 0x6282, WELL_DEACTIVATED = 0x6283, WAITS = 0x6100,
@@ -76,6 +86,7 @@ enum {
     SMALL_RESPONSE = 4, NO_TRIAL_ROOM = 5, NO_TEMPLATE = 6, NOTHING_ON_TRIAL = 7
 };
 
+/* The lent card. */
 struct card {
     uint8_t *table;
     size_t entries;
@@ -87,26 +98,35 @@ struct card {
 /* "Numbers are big-endian." */
 static inline unsigned number_at(const uint8_t *at) { return (unsigned)at[0] << 8 | at[1]; }
 
+/* Writes such a number. */
 static inline void put_number(uint8_t *at, unsigned number)
 {
     at[0] = (uint8_t)(number >> 8);
     at[1] = (uint8_t)number;
 }
 
+/* The bytes of a table entry. */
 static inline uint8_t *entry_of(const struct card *card, size_t number)
 {
     return card->table + number * ENTRY_SIZE;
 }
 
-/* Kinds 1 to 3. Only for an entry whose kind is known to be 1 to 6. */
+/* Whether an entry has this identifier, given by its two bytes. */
+static inline bool bears(const uint8_t *entry, const uint8_t *identifier)
+{
+    return entry[AT_IDENTIFIER] == identifier[0] && entry[AT_IDENTIFIER + 1] == identifier[1];
+}
+
+/* "a directory (kinds 1 to 3)". Only for an entry whose kind is known to be 1 to 6. */
 static inline bool is_directory(const uint8_t *entry) { return entry[AT_KIND] <= ADF; }
 
-/* Only for a record file of a sound table. */
+/* The records of a file. Only for a record file of a sound table. */
 static inline unsigned record_count(const uint8_t *entry)
 {
     return number_at(entry + AT_LENGTH) / entry[AT_RECORD_LENGTH];
 }
 
+/* What a call answers, as second.h has it. */
 static uint64_t answer_of(unsigned number, uint32_t count, size_t length)
 {
     return number | (uint64_t)count << 8 | (uint64_t)length << 32;
@@ -181,8 +201,8 @@ static bool entry_sound(const struct card *card, size_t number)
  * other". Both entries are sound by themselves and neither is entry 0. */
 static bool pair_sound(const uint8_t *a, const uint8_t *b)
 {
-    if (a[AT_PARENT] == b[AT_PARENT] && a[0] == b[0] && a[1] == b[1] &&
-        a[AT_KIND] != ADF && b[AT_KIND] != ADF)
+    if (a[AT_PARENT] == b[AT_PARENT] && bears(a, b + AT_IDENTIFIER) && a[AT_KIND] != ADF &&
+        b[AT_KIND] != ADF)
         return false;
     if (is_directory(a) || is_directory(b))
         return true;
@@ -191,6 +211,7 @@ static bool pair_sound(const uint8_t *a, const uint8_t *b)
            b_start + number_at(b + AT_LENGTH) <= a_start;
 }
 
+/* Whether each entry is sound by itself and beside each one before it. */
 static bool table_sound(const struct card *card)
 {
     for (size_t number = 0; number < card->entries; number++) {
@@ -205,6 +226,7 @@ static bool table_sound(const struct card *card)
 
 /* ---- Sound: the journal ------------------------------------------------ */
 
+/* "only zeros", eight bytes at a time. */
 static bool only_zeros(const uint8_t *at, size_t length)
 {
     uint64_t seen = 0;
@@ -241,8 +263,8 @@ static bool table_byte_sound(const struct card *card, size_t place, uint8_t old)
  * table byte". The n old bytes are known to lie before the tail. */
 static bool journal_entry_sound(const struct card *card, const uint8_t *tail)
 {
-    const size_t place = number_at(tail + 2);
-    const size_t n = number_at(tail + 4);
+    const size_t place = number_at(tail + AT_PLACE);
+    const size_t n = number_at(tail + AT_N);
 
     if ((tail[1] | tail[6] | tail[7]) != 0)
         return false;
@@ -270,7 +292,7 @@ static bool journal_sound(const struct card *card)
     unsigned marks = 0;
     bool oldest_is_mark = true; /* with U 0 there is no oldest entry */
 
-    if (used > MOST_USED || journal[2] > MOST_SCRIPTS || journal[3] != 0)
+    if (used > MOST_USED || journal[AT_SCRIPTS] > MOST_SCRIPTS || journal[3] != 0)
         return false;
     if (!only_zeros(entries + used, MOST_USED - used))
         return false;
@@ -278,18 +300,19 @@ static bool journal_sound(const struct card *card)
         if (left < TAIL_SIZE)
             return false;
         const uint8_t *tail = entries + left - TAIL_SIZE;
-        const size_t n = number_at(tail + 4);
+        const size_t n = number_at(tail + AT_N);
         if (n > left - TAIL_SIZE || !journal_entry_sound(card, tail))
             return false;
         oldest_is_mark = tail[0] == MARK;
         marks += oldest_is_mark;
         left -= n + TAIL_SIZE;
     }
-    return oldest_is_mark && marks == journal[2];
+    return oldest_is_mark && marks == journal[AT_SCRIPTS];
 }
 
 /* Number 1: "table, file memory or journal not sound". "The table has 1 to 64 entries of 16
- * bytes"; "File memory has 1 to 32,768 bytes"; "The journal has 2,048 bytes". */
+ * bytes"; "File memory has 1 to 32,768 bytes"; "The journal has 2,048 bytes". Fills the card
+ * in. */
 static bool lent_card_sound(struct card *card, uint8_t *table, size_t table_length,
                             uint8_t *files, size_t files_length,
                             uint8_t *journal, size_t journal_length)
@@ -305,6 +328,7 @@ static bool lent_card_sound(struct card *card, uint8_t *table, size_t table_leng
 
 /* ---- Writing the journal ----------------------------------------------- */
 
+/* Appends an entry: the n old bytes, the tail, and U. The caller has seen that there is room. */
 static void append_to_journal(uint8_t *journal, uint8_t kind, size_t place,
                               const uint8_t *old, size_t n)
 {
@@ -316,8 +340,8 @@ static void append_to_journal(uint8_t *journal, uint8_t kind, size_t place,
     at += n;
     at[0] = kind;
     at[1] = 0;
-    put_number(at + 2, (unsigned)place);
-    put_number(at + 4, (unsigned)n);
+    put_number(at + AT_PLACE, (unsigned)place);
+    put_number(at + AT_N, (unsigned)n);
     at[6] = 0;
     at[7] = 0;
     put_number(journal, (unsigned)(used + n + TAIL_SIZE));
@@ -327,7 +351,7 @@ static void append_to_journal(uint8_t *journal, uint8_t kind, size_t place,
 static void append_mark(uint8_t *journal)
 {
     append_to_journal(journal, MARK, 0, NULL, 0);
-    journal[2]++;
+    journal[AT_SCRIPTS]++;
 }
 
 /* ---- A session, a command and its outcome ------------------------------ */
@@ -340,7 +364,7 @@ struct session {
     uint8_t directory;
     uint8_t file;
     uint8_t record;
-    bool domain_never; /* access domain FF */
+    bool domain_closed; /* access domain FF */
     uint8_t waiting_length;
     uint16_t kept_word;
     uint8_t waiting[WAITING_SIZE];
@@ -354,7 +378,7 @@ static void start_session(struct session *session, size_t application, uint8_t d
     memset(session, 0, sizeof *session);
     session->root = (uint8_t)application;
     session->directory = (uint8_t)application;
-    session->domain_never = domain == 0xFF;
+    session->domain_closed = domain == DOMAIN_CLOSED;
 }
 
 struct command {
@@ -375,6 +399,7 @@ struct outcome {
     uint8_t new_value;
 };
 
+/* The outcome that leaves the session and the card as they are, and has no data. */
 static struct outcome unchanged(const struct session *session)
 {
     return (struct outcome){.directory = session->directory, .file = session->file,
@@ -401,6 +426,7 @@ static bool journal_has_room(const struct card *card, const struct outcome *outc
     return used <= MOST_USED;
 }
 
+/* Moves the session on and writes what is to be written, each old byte journalled first. */
 static void carry_out(const struct card *card, struct session *session,
                       const struct outcome *outcome)
 {
@@ -420,11 +446,6 @@ static void carry_out(const struct card *card, struct session *session,
 }
 
 /* ---- SELECT ------------------------------------------------------------ */
-
-static bool bears(const uint8_t *entry, const uint8_t *identifier)
-{
-    return entry[0] == identifier[0] && entry[1] == identifier[1];
-}
 
 enum { NONE = MOST_ENTRIES, ANY_KIND = 0 };
 
@@ -518,9 +539,9 @@ static unsigned select_file(const struct card *card, struct session *session,
     const size_t lc = command->p3;
     size_t found;
 
-    if (command->p1 == FROM_ANYWHERE ? lc != 2 : lc % 2 != 0 || lc > MOST_PATH)
+    if (command->p1 == BY_IDENTIFIER ? lc != 2 : lc % 2 != 0 || lc > MOST_PATH)
         return WRONG_LENGTH;
-    if (command->p1 == FROM_ANYWHERE)
+    if (command->p1 == BY_IDENTIFIER)
         found = first_match(card, session, command->data);
     else
         found = follow_path(card, command->p1 == PATH_FROM_ROOT ? session->root
@@ -563,6 +584,7 @@ static unsigned get_response(const struct session *session, const struct command
 
 /* ---- Transparent files ------------------------------------------------- */
 
+/* "offset P1P2". */
 static size_t offset_of(const struct command *command)
 {
     return (size_t)command->p1 << 8 | command->p2;
@@ -699,6 +721,7 @@ static unsigned update_record(const uint8_t *entry, const struct command *comman
     return WELL;
 }
 
+/* Whether the data stand somewhere in a record, in one piece. */
 static bool contains(const uint8_t *record, size_t record_length, const uint8_t *data,
                      size_t length)
 {
@@ -787,7 +810,7 @@ static bool p1p2_allowed(const struct command *command)
 
     switch (command->ins) {
     case SELECT:
-        return (p1 == FROM_ANYWHERE || p1 == PATH_FROM_ROOT || p1 == PATH_FROM_DIRECTORY) &&
+        return (p1 == BY_IDENTIFIER || p1 == PATH_FROM_ROOT || p1 == PATH_FROM_DIRECTORY) &&
                (p2 == NO_DATA || p2 == WITH_FCP);
     case READ_BINARY:
     case UPDATE_BINARY:
@@ -897,7 +920,7 @@ static unsigned decide(const struct card *card, struct session *session,
         return WRONG_P1P2;
     if (command->ins == GET_RESPONSE)
         return get_response(session, command, outcome);
-    if (session->domain_never)
+    if (session->domain_closed)
         return NOT_ALLOWED;
     if (command->ins == SELECT)
         return select_file(card, session, command, outcome);
@@ -930,6 +953,7 @@ static unsigned instruction_fault(const struct command *command)
     }
 }
 
+/* The "outgoing" commands: B0, B2, C0. */
 static bool is_outgoing(uint8_t ins)
 {
     return ins == READ_BINARY || ins == READ_RECORD || ins == GET_RESPONSE;
@@ -982,6 +1006,7 @@ static unsigned leave_waiting(struct session *session, struct outcome *outcome, 
     return WAITS | session->waiting_length;
 }
 
+/* One command of a compact script, with so many bytes after it; answers the word it reports. */
 static unsigned compact_command(const struct card *card, struct session *session,
                                 const struct command *command, size_t after,
                                 struct outcome *outcome)
@@ -1064,6 +1089,7 @@ static unsigned read_length(const uint8_t *script, size_t end, size_t *place, si
     return BAD_LENGTH;
 }
 
+/* An expanded script that is read. */
 struct script {
     const uint8_t *bytes;
     size_t place; /* of the next byte to be read */
@@ -1162,6 +1188,7 @@ static unsigned expanded_fault(const struct command *command, unsigned by_size)
 
 enum { LAST_R_APDU = 4 /* 23 02 and a status, the one that may pass 1,000 */ };
 
+/* The R-APDUs kept so far, and a last one or a Bad format TLV. */
 struct kept {
     size_t length;
     uint8_t bytes[MOST_KEPT + LAST_R_APDU];
@@ -1170,6 +1197,7 @@ struct kept {
 /* The bytes of a length in shortest form. */
 static size_t length_size(size_t length) { return length < 0x80 ? 1 : length < 0x100 ? 2 : 3; }
 
+/* Writes a length in shortest form; answers the place behind it. */
 static uint8_t *put_length(uint8_t *at, size_t length)
 {
     if (length >= 0x100) {
@@ -1182,6 +1210,7 @@ static uint8_t *put_length(uint8_t *at, size_t length)
     return at;
 }
 
+/* The bytes of a whole R-APDU. */
 static size_t r_apdu_size(size_t data_length)
 {
     return 1 + length_size(data_length + 2) + data_length + 2;
@@ -1211,6 +1240,7 @@ static void keep_bad_format(struct kept *kept, unsigned code)
     kept->length += 3;
 }
 
+/* One C-APDU, its R-APDU counted against the 1,000 bytes or not; answers the word it gives. */
 static unsigned expanded_command(const struct card *card, struct session *session,
                                  const uint8_t *apdu, unsigned by_size, size_t kept_so_far,
                                  bool counted, struct outcome *outcome)
@@ -1307,6 +1337,7 @@ static bool is_application(const struct card *card, size_t application)
            (application < card->entries && entry_of(card, application)[AT_KIND] == ADF);
 }
 
+/* "One library runs a remote file management script against a lent card". */
 uint64_t second_run(uint8_t *table, size_t table_length, uint8_t *files, size_t files_length,
                     uint8_t *journal, size_t journal_length, size_t application,
                     uint8_t domain, uint8_t format, const uint8_t *script,
@@ -1320,20 +1351,21 @@ uint64_t second_run(uint8_t *table, size_t table_length, uint8_t *files, size_t 
     if (!lent_card_sound(&card, table, table_length, files, files_length, journal,
                          journal_length))
         return NOT_SOUND;
-    if (format > 1 || !is_application(&card, application) || (domain != 0x00 && domain != 0xFF))
+    if ((format != COMPACT && format != EXPANDED) || !is_application(&card, application) ||
+        (domain != DOMAIN_OPEN && domain != DOMAIN_CLOSED))
         return WRONG_ARGUMENT;
     if (script_length < 1 || script_length > MOST_SCRIPT)
         return WRONG_SCRIPT_LENGTH;
     if (response_length < LEAST_RESPONSE)
         return SMALL_RESPONSE;
-    if (journal[2] == MOST_SCRIPTS || number_at(journal) + TAIL_SIZE > MOST_USED)
+    if (journal[AT_SCRIPTS] == MOST_SCRIPTS || number_at(journal) + TAIL_SIZE > MOST_USED)
         return NO_TRIAL_ROOM;
-    if (format == 1 && !read_template(script, script_length, &expanded))
+    if (format == EXPANDED && !read_template(script, script_length, &expanded))
         return NO_TEMPLATE;
 
     append_mark(journal);
     start_session(&session, application, domain);
-    if (format == 1)
+    if (format == EXPANDED)
         return run_expanded(&card, &session, &expanded, response);
     return run_compact(&card, &session, script, script_length, response);
 }
@@ -1348,7 +1380,7 @@ uint64_t second_take_back(uint8_t *table, size_t table_length, uint8_t *files,
     if (!lent_card_sound(&card, table, table_length, files, files_length, journal,
                          journal_length))
         return NOT_SOUND;
-    if (journal[2] == 0)
+    if (journal[AT_SCRIPTS] == 0)
         return NOTHING_ON_TRIAL;
 
     uint8_t *entries = journal + JOURNAL_HEAD;
@@ -1357,8 +1389,8 @@ uint64_t second_take_back(uint8_t *table, size_t table_length, uint8_t *files,
     uint8_t kind;
     do {
         const uint8_t *tail = entries + left - TAIL_SIZE;
-        const size_t place = number_at(tail + 2);
-        const size_t n = number_at(tail + 4);
+        const size_t place = number_at(tail + AT_PLACE);
+        const size_t n = number_at(tail + AT_N);
         kind = tail[0];
         if (kind == FILE_BYTES)
             memcpy(files + place, tail - n, n);
@@ -1368,7 +1400,7 @@ uint64_t second_take_back(uint8_t *table, size_t table_length, uint8_t *files,
     } while (kind != MARK);
     memset(entries + left, 0, used - left);
     put_number(journal, (unsigned)left);
-    journal[2]--;
+    journal[AT_SCRIPTS]--;
     return ACCEPTED;
 }
 

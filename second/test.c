@@ -1,5 +1,6 @@
-/* The test of the second program: the worked card, then the open points, then histories and
- * random input. Every expected byte is written by hand from the paper's text. */
+/* The test of the second program: the worked card, then the points of docs/DECISIONS.md, then
+ * histories and random input. Every expected byte is written by hand from the paper's text. A case
+ * whose name begins with a number is of the point with that number. */
 #include "test_kit.h"
 
 /* "S 00D60000020141: 039000, U 18; taken back, all as before." */
@@ -33,7 +34,7 @@ static void increase_case(void)
     check_number("newest", 2, w.table.at[4 * 16 + 9]);
     check_number("U", 28, used_of(&w));
     check_part("cyclic file", w.files.at + 29, "000000 000000 000005");
-    /* Open point 3: the old record at 29 + 2 * 3 = 0023, the old newest at 4 * 16 + 9 = 0049. */
+    /* Point 3: the old record at 29 + 2 * 3 = 0023, the old newest at 4 * 16 + 9 = 0049. */
     check_part("journal", w.journal.at, "001C 01 00 0100000000000000 000000 0200002300030000 "
                                         "00 0300004900010000 00");
     start_case("worked: increase taken back, all as before");
@@ -42,6 +43,7 @@ static void increase_case(void)
     compact("worked: increase without C0", "00A4080C047F106F39 8032000003000005", "026106");
 }
 
+/* "Application 5: 00A4000C026F46 00D600000101: 026982. 00A4000C023F00: 016A82." */
 static void application_five(void)
 {
     static struct card_bytes w;
@@ -53,7 +55,8 @@ static void application_five(void)
     compact_in(&w, "worked: application 5, 3F00", 5, OPEN, "00A4000C023F00", "016A82");
 }
 
-void test_worked_card(void)
+/* Every case of "The worked card". */
+static void test_worked_card(void)
 {
     compact("worked: select 7F10", "00A4000C027F10", "019000");
     compact("worked: 6F46 from the MF", "00A4000C026F46", "016A82");
@@ -80,9 +83,9 @@ int main(void)
     test_worked_card();
     test_soundness();
     test_calls();
-    test_compact_points();
-    test_file_points();
-    test_expanded_points();
+    test_compact();
+    test_files();
+    test_expanded();
     test_histories();
     test_random();
     return report() ? 0 : 1;

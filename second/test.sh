@@ -9,9 +9,7 @@ mkdir -p "$out" || exit 1
 
 warnings="-std=c11 -Wall -Wextra -Werror"
 sanitizers="-fsanitize=address,undefined -fno-sanitize-recover=all"
-sources=("$here"/second.c "$here"/test.c "$here"/test_kit.c "$here"/test_soundness.c
-         "$here"/test_calls.c "$here"/test_compact.c "$here"/test_files.c
-         "$here"/test_expanded.c "$here"/test_random.c)
+sources=("$here"/second.c "$here"/test*.c)
 failed=0
 
 # The program itself needs no C library.

@@ -1,3 +1,4 @@
+/* The kit of the tests. What is declared in test_kit.h has its comment there. */
 #include "test_kit.h"
 
 #include <stdio.h>
@@ -12,6 +13,7 @@ static struct {
 
 /* ---- Bytes ---- */
 
+/* The value of a hexadecimal digit. */
 static unsigned digit_of(char c)
 {
     if (c >= '0' && c <= '9')
@@ -59,6 +61,12 @@ bool same_bytes(const struct bytes *a, const struct bytes *b)
     return a->length == b->length && memcmp(a->at, b->at, a->length) == 0;
 }
 
+void print_hex(const uint8_t *at, size_t length)
+{
+    for (size_t i = 0; i < length; i++)
+        printf("%02X", at[i]);
+}
+
 /* ---- Cards ---- */
 
 void made_card(struct card_bytes *c, const char *table, size_t files_length)
@@ -78,8 +86,7 @@ void made_card(struct card_bytes *c, const char *table, size_t files_length)
  * 00 with newest 0; activated, journal zero." */
 void worked_card(struct card_bytes *c)
 {
-    made_card(c,
-              "3F00 00 01 0000 0000 00 00 05 00 00 000000"
+    made_card(c, MF_ENTRY
               "7F10 00 02 0000 0000 00 00 05 00 00 000000"
               "6F46 01 04 0000 0011 00 00 05 00 00 000000"
               "6F3A 01 05 0011 000C 04 00 05 00 00 000000"
@@ -89,12 +96,6 @@ void worked_card(struct card_bytes *c)
               55);
     memset(c->files.at, 0xFF, 55);
     memset(c->files.at + 29, 0x00, 9);
-}
-
-bool same_card(const struct card_bytes *a, const struct card_bytes *b)
-{
-    return same_bytes(&a->table, &b->table) && same_bytes(&a->files, &b->files) &&
-           same_bytes(&a->journal, &b->journal);
 }
 
 void fill_journal(struct card_bytes *c, unsigned marks, size_t used)
@@ -134,6 +135,7 @@ void start_case(const char *name)
     state.name = name;
 }
 
+/* Marks the case as failed; whether it was not yet. */
 static bool first_failure(void)
 {
     if (state.this_failed)
@@ -155,14 +157,15 @@ void check_number(const char *what, unsigned long expected, unsigned long got)
         printf("failed: %s: %s is %lu, expected %lu\n", state.name, what, got, expected);
 }
 
-static void print_hex(const uint8_t *at, size_t length)
+/* Prints bytes, of many the first 40 and how many they are. */
+static void print_some(const uint8_t *at, size_t length)
 {
-    for (size_t i = 0; i < length && i < 40; i++)
-        printf("%02X", at[i]);
+    print_hex(at, length < 40 ? length : 40);
     if (length > 40)
         printf(".. (%zu bytes)", length);
 }
 
+/* Fails the case if length or bytes differ. */
 static void check_bytes(const char *what, const uint8_t *expected, size_t expected_length,
                         const uint8_t *got, size_t length)
 {
@@ -171,9 +174,9 @@ static void check_bytes(const char *what, const uint8_t *expected, size_t expect
     if (!first_failure())
         return;
     printf("failed: %s: %s is ", state.name, what);
-    print_hex(got, length);
+    print_some(got, length);
     printf(", expected ");
-    print_hex(expected, expected_length);
+    print_some(expected, expected_length);
     printf("\n");
 }
 
@@ -187,8 +190,10 @@ void check_part(const char *what, const uint8_t *got, const char *expected_hex)
 
 void check_card(const char *what, const struct card_bytes *expected, const struct card_bytes *got)
 {
-    if (!same_card(expected, got))
-        check(false, what);
+    check(same_bytes(&expected->table, &got->table) &&
+              same_bytes(&expected->files, &got->files) &&
+              same_bytes(&expected->journal, &got->journal),
+          what);
 }
 
 bool report(void)
@@ -211,16 +216,19 @@ static uint8_t *lend(const uint8_t *from, size_t length)
     return copy;
 }
 
+/* A card's three memories, lent for a call. */
 struct lent {
     uint8_t *table, *files, *journal;
 };
 
+/* Copies of the card's memories. */
 static struct lent lend_card(const struct card_bytes *c)
 {
     return (struct lent){lend(c->table.at, c->table.length), lend(c->files.at, c->files.length),
                          lend(c->journal.at, c->journal.length)};
 }
 
+/* Takes over what a call left in a copy, and frees it. */
 static void take_over(uint8_t *to, uint8_t *lent, size_t length)
 {
     if (length > 0)
@@ -228,6 +236,7 @@ static void take_over(uint8_t *to, uint8_t *lent, size_t length)
     free(lent);
 }
 
+/* Takes over what a call left of the card. */
 static void return_card(struct card_bytes *c, struct lent lent)
 {
     take_over(c->table.at, lent.table, c->table.length);
@@ -235,24 +244,18 @@ static void return_card(struct card_bytes *c, struct lent lent)
     take_over(c->journal.at, lent.journal, c->journal.length);
 }
 
-static uint64_t bare_take_back(struct card_bytes *c)
+/* Makes a take-back or a confirmation; answers what it answers. */
+static uint64_t call_on(struct card_bytes *c,
+                        uint64_t call(uint8_t *, size_t, uint8_t *, size_t, uint8_t *, size_t))
 {
     const struct lent l = lend_card(c);
-    const uint64_t answer = second_take_back(l.table, c->table.length, l.files, c->files.length,
-                                             l.journal, c->journal.length);
+    const uint64_t answer = call(l.table, c->table.length, l.files, c->files.length, l.journal,
+                                 c->journal.length);
     return_card(c, l);
     return answer;
 }
 
-static uint64_t bare_confirm(struct card_bytes *c)
-{
-    const struct lent l = lend_card(c);
-    const uint64_t answer = second_confirm(l.table, c->table.length, l.files, c->files.length,
-                                           l.journal, c->journal.length);
-    return_card(c, l);
-    return answer;
-}
-
+/* Whether the bytes from one place to another are as before. */
 static bool kept_behind(const uint8_t *now, const uint8_t *before, size_t from, size_t to)
 {
     for (size_t i = from; i < to; i++)
@@ -261,6 +264,7 @@ static bool kept_behind(const uint8_t *now, const uint8_t *before, size_t from, 
     return true;
 }
 
+/* Checks what an accepted run does to every card. */
 static void check_accepted_run(const struct card_bytes *before, const struct card_bytes *after)
 {
     static struct card_bytes copy;
@@ -268,10 +272,10 @@ static void check_accepted_run(const struct card_bytes *before, const struct car
     check(scripts_of(after) == scripts_of(before) + 1u, "scripts on trial not one more");
     check(used_of(after) >= used_of(before) + 8u, "no mark appended");
     copy = *after;
-    check(bare_take_back(&copy) == 0, "take-back of an accepted run refused");
+    check(call_on(&copy, second_take_back) == 0, "take-back of an accepted run refused");
     check_card("taken back, not all as before", before, &copy);
     copy = *after;
-    check(bare_confirm(&copy) == 0, "confirmation after an accepted run refused");
+    check(call_on(&copy, second_confirm) == 0, "confirmation after an accepted run refused");
 }
 
 struct reply run(struct card_bytes *c, size_t application, uint8_t domain, uint8_t format,
@@ -320,7 +324,7 @@ unsigned take_back(struct card_bytes *c)
     static struct card_bytes before;
 
     before = *c;
-    const uint64_t answer = bare_take_back(c);
+    const uint64_t answer = call_on(c, second_take_back);
     check(answer <= 7, "take-back with a length or a count");
     if (answer != 0)
         check_card("refused take-back changed the card", &before, c);
@@ -332,7 +336,7 @@ unsigned confirm(struct card_bytes *c)
     static struct card_bytes expected;
 
     expected = *c;
-    const uint64_t answer = bare_confirm(c);
+    const uint64_t answer = call_on(c, second_confirm);
     check(answer <= 1, "confirmation with a length or a count");
     if (answer == 0) /* "A confirmation zeros the journal." */
         memset(expected.journal.at, 0, expected.journal.length);
@@ -353,6 +357,7 @@ void whole_case(struct card_bytes *c, const char *name, size_t application, uint
     check_number("count", count, reply.count);
 }
 
+/* Any format, application and domain; of a compact answer the first byte is the count. */
 static void hex_case(struct card_bytes *c, const char *name, size_t application, uint8_t domain,
                      uint8_t format, const char *script_hex, uint32_t count,
                      const char *answer_hex)
@@ -372,12 +377,6 @@ void compact_in(struct card_bytes *c, const char *name, size_t application, uint
     hex_case(c, name, application, domain, COMPACT, script, 0, answer);
 }
 
-void expanded_in(struct card_bytes *c, const char *name, size_t application, uint8_t domain,
-                 const char *script, uint32_t count, const char *answer)
-{
-    hex_case(c, name, application, domain, EXPANDED, script, count, answer);
-}
-
 void compact_on(struct card_bytes *c, const char *name, const char *script, const char *answer)
 {
     compact_in(c, name, SHARED, OPEN, script, answer);
@@ -386,7 +385,7 @@ void compact_on(struct card_bytes *c, const char *name, const char *script, cons
 void expanded_on(struct card_bytes *c, const char *name, const char *script, uint32_t count,
                  const char *answer)
 {
-    expanded_in(c, name, SHARED, OPEN, script, count, answer);
+    hex_case(c, name, SHARED, OPEN, EXPANDED, script, count, answer);
 }
 
 void compact(const char *name, const char *script, const char *answer)
@@ -416,14 +415,13 @@ void refused(struct card_bytes *c, const char *name, size_t application, uint8_t
     check_number("number", number, reply.number);
 }
 
-/* The number of each call on a copy of the card. */
-static void three_calls(struct card_bytes *c, const char *name, bool is_sound)
+void soundness(struct card_bytes *c, const char *name, bool is_sound)
 {
     static struct card_bytes copy;
     static struct bytes script;
 
     start_case(name);
-    set_hex(&script, "00A4000C027F10");
+    set_hex(&script, SELECT_DF);
     copy = *c;
     check_number("run's number", is_sound ? 0 : 1,
                  run(&copy, SHARED, OPEN, COMPACT, &script, FULL_RESPONSE).number);
@@ -434,11 +432,12 @@ static void three_calls(struct card_bytes *c, const char *name, bool is_sound)
     check_number("confirmation's number", is_sound ? 0 : 1, confirm(&copy));
 }
 
-void unsound(struct card_bytes *c, const char *name) { three_calls(c, name, false); }
-void sound(struct card_bytes *c, const char *name) { three_calls(c, name, true); }
+void unsound(struct card_bytes *c, const char *name) { soundness(c, name, false); }
+void sound(struct card_bytes *c, const char *name) { soundness(c, name, true); }
 
 /* ---- Expanded scripts ---- */
 
+/* Adds a length in shortest form. */
 static void add_length(struct bytes *to, size_t length)
 {
     if (length > 0xFF) {

@@ -1,5 +1,6 @@
-/* Histories (open point 44) and random input with a fixed seed. What every call must keep is
- * checked by the calls of the kit. */
+/* Histories (point 51) and random input with a fixed seed, which no expression draws from twice in
+ * an open order: it is the same on every machine. What every call must keep is checked by the calls
+ * of the kit. */
 #include "test_kit.h"
 
 #include <stdio.h>
@@ -7,6 +8,7 @@
 
 /* ---- Histories ---- */
 
+/* A run of the history. */
 struct step {
     size_t application;
     uint8_t domain, format;
@@ -34,6 +36,7 @@ static const struct step history[] = {
 };
 enum { STEPS = sizeof history / sizeof history[0] };
 
+/* Runs a script of the history. */
 static struct reply take_step(struct card_bytes *c, const struct step *step)
 {
     static struct bytes script;
@@ -42,8 +45,8 @@ static struct reply take_step(struct card_bytes *c, const struct step *step)
     return run(c, step->application, step->domain, step->format, &script, step->response_length);
 }
 
-/* "The same answer means number, length, count and the whole response memory, with the same
- * response memory lent." */
+/* "The same answer is number, length, count and the whole response memory, with the same response
+ * memory lent." */
 static bool same_answer(const struct reply *a, const struct reply *b)
 {
     return a->number == b->number && a->length == b->length && a->count == b->count &&
@@ -59,7 +62,7 @@ static void script_between(void)
     static struct card_bytes plain[STEPS + 1], c;
     static struct reply answers[STEPS];
 
-    start_case("44: the history alone");
+    start_case("51: the history alone");
     worked_card(&plain[0]);
     for (unsigned i = 0; i < STEPS; i++) {
         plain[i + 1] = plain[i];
@@ -67,7 +70,7 @@ static void script_between(void)
         check_number("number", expected_numbers[i], answers[i].number);
     }
     for (unsigned at = 0; at <= STEPS; at++) {
-        start_case("44: a script run and taken back inside the history");
+        start_case("51: a script run and taken back inside the history");
         for (unsigned between = 0; between < STEPS; between++) {
             c = plain[at];
             if (take_step(&c, &history[between]).number == 0)
@@ -133,6 +136,7 @@ void test_histories(void)
 
 static uint64_t random_state = 0x1234567887654321u;
 
+/* A number below the limit (xorshift64). */
 static uint32_t below(uint32_t limit)
 {
     random_state ^= random_state << 13;
@@ -150,13 +154,22 @@ static uint8_t some_byte(void)
     return below(3) == 0 ? (uint8_t)below(256) : often[below(sizeof often)];
 }
 
+/* Changes one byte from one place to before another. */
+static void change_byte(struct bytes *b, size_t from, size_t to)
+{
+    const size_t place = from + below((uint32_t)(to - from));
+
+    b->at[place] = some_byte();
+}
+
+/* The worked card or a larger one, with some states, NEVER bits and journals. */
 static void random_card(struct card_bytes *c)
 {
     if (below(3) > 0) {
         worked_card(c);
         c->table.at[4 * 16 + 9] = (uint8_t)below(3);
     } else {
-        made_card(c, "3F00 00 01 0000 0000 00 00 05 00 00 000000"
+        made_card(c, MF_ENTRY
                      "7F10 00 02 0000 0000 00 00 05 00 00 000000"
                      "6F46 01 04 0000 012C 00 00 05 00 00 000000"
                      "6F3A 01 05 012C 00FE 01 00 05 00 00 000000"
@@ -170,8 +183,10 @@ static void random_card(struct card_bytes *c)
         if (below(5) == 0)
             c->table.at[entry * 16 + 12] = (uint8_t)below(32);
     }
-    if (below(4) == 0)
-        fill_journal(c, 1 + below(15), 1900 + below(145));
+    if (below(4) == 0) {
+        const unsigned marks = 1 + below(15);
+        fill_journal(c, marks, 1900 + below(145));
+    }
 }
 
 /* Commands in compact form for a transparent, a linear and a cyclic file, and for any. */
@@ -188,24 +203,27 @@ static const char *const commands[4][CHOICES] = {
 static const char *const readings[CHOICES] = {
     "00B0000000", "00B0000003", "00B0000A0A", "00B2000200", "00B2000300", "00B2010400",
     "00C0000000", "00C0000004"};
-static const char *const selects[3] = {"00A4080C047F106F46", "00A4080C047F106F3A",
-                                       "00A4080C047F106F39"};
+static const char *const selects[3] = {SELECT_TRANSPARENT, SELECT_LINEAR, SELECT_CYCLIC};
 
+/* Adds a command, now and then with one byte changed. */
 static void add_command(struct bytes *to, const char *hex)
 {
     const size_t from = to->length;
 
     add_hex(to, hex);
     if (below(60) == 0)
-        to->at[from + below((uint32_t)(to->length - from))] = some_byte();
+        change_byte(to, from, to->length);
 }
 
 /* A command that mostly fits a file of this kind. */
 static const char *some_command(unsigned kind)
 {
-    return commands[below(12) == 0 ? 3 : kind][below(CHOICES)];
+    const char *const *fitting = commands[below(12) == 0 ? 3 : kind];
+
+    return fitting[below(CHOICES)];
 }
 
+/* A SELECT, some commands and a reading one, mostly right. */
 static void random_compact(struct bytes *script)
 {
     const unsigned kind = below(3);
@@ -250,7 +268,7 @@ static void random_expanded(struct bytes *script)
     else
         wrap_ae(script);
     if (below(15) == 0)
-        script->at[below((uint32_t)script->length)] = some_byte();
+        change_byte(script, 0, script->length);
 }
 
 /* The form of an accepted answer. */
@@ -275,6 +293,7 @@ static void check_form(const struct reply *reply, uint8_t format, const struct b
     }
 }
 
+/* A run with mostly right arguments. */
 static void random_run(struct card_bytes *c)
 {
     static struct bytes script;
@@ -292,12 +311,14 @@ static void random_run(struct card_bytes *c)
     check_form(&reply, format, &script);
 }
 
+/* Changes bytes at so many places. */
 static void damage(struct bytes *b, unsigned places)
 {
     for (unsigned i = 0; i < places && b->length > 0; i++)
-        b->at[below((uint32_t)b->length)] = some_byte();
+        change_byte(b, 0, b->length);
 }
 
+/* Now and then gives bytes another length, at most one more. */
 static void shorten(struct bytes *b)
 {
     if (below(15) == 0)
@@ -341,7 +362,7 @@ static void random_damage(unsigned rounds)
             struct bytes *j = &c.journal;
             const size_t end = 4 + used_of(&c);
             for (unsigned i = below(3); i > 0 && end <= j->length; i--)
-                j->at[below((uint32_t)end)] = some_byte();
+                change_byte(j, 0, end);
         }
         damage(&c.journal, below(8) == 0);
         shorten(&c.table);

@@ -1,4 +1,4 @@
-/* Soundness (number 1), open points 1 to 8. Every card is put to all three calls. */
+/* Soundness (number 1), points 1 to 10. Every card is put to all three calls. */
 #include "test_kit.h"
 
 #include <stdio.h>
@@ -11,12 +11,10 @@ static void table_byte(const char *name, unsigned entry, unsigned byte, uint8_t 
 
     worked_card(&w);
     w.table.at[entry * 16 + byte] = value;
-    if (ok)
-        sound(&w, name);
-    else
-        unsound(&w, name);
+    soundness(&w, name, ok);
 }
 
+/* One identifier of the worked card changed. */
 static void identifier(const char *name, unsigned entry, unsigned id, bool ok)
 {
     static struct card_bytes w;
@@ -24,24 +22,19 @@ static void identifier(const char *name, unsigned entry, unsigned id, bool ok)
     worked_card(&w);
     w.table.at[entry * 16] = (uint8_t)(id >> 8);
     w.table.at[entry * 16 + 1] = (uint8_t)id;
-    if (ok)
-        sound(&w, name);
-    else
-        unsound(&w, name);
+    soundness(&w, name, ok);
 }
 
+/* A card with this table, an empty journal and file memory of this length. */
 static void made(const char *name, const char *table, size_t files_length, bool ok)
 {
     static struct card_bytes c;
 
     made_card(&c, table, files_length);
-    if (ok)
-        sound(&c, name);
-    else
-        unsound(&c, name);
+    soundness(&c, name, ok);
 }
 
-/* A journal on the worked card (or another), given by byte 2 and its entries. */
+/* A journal on this card, given by byte 2 and its entries. */
 static void journal_on(struct card_bytes *c, const char *name, unsigned marks,
                        const char *entries, bool ok)
 {
@@ -53,12 +46,10 @@ static void journal_on(struct card_bytes *c, const char *name, unsigned marks,
     c->journal.at[1] = (uint8_t)b.length;
     c->journal.at[2] = (uint8_t)marks;
     memcpy(c->journal.at + 4, b.at, b.length);
-    if (ok)
-        sound(c, name);
-    else
-        unsound(c, name);
+    soundness(c, name, ok);
 }
 
+/* The same on the worked card. */
 static void journal(const char *name, unsigned marks, const char *entries, bool ok)
 {
     static struct card_bytes w;
@@ -67,9 +58,7 @@ static void journal(const char *name, unsigned marks, const char *entries, bool 
     journal_on(&w, name, marks, entries, ok);
 }
 
-#define MF_ENTRY "3F00 00 01 0000 0000 00 00 05 00 00 000000 "
-#define MARK "0100000000000000 "
-
+/* Lengths of the three memories. */
 static void lengths(void)
 {
     static struct card_bytes w;
@@ -124,6 +113,7 @@ static void many_entries(void)
     unsound(&c, "65 entries");
 }
 
+/* "Directories have 0 in bytes 4-9 and 12, and state 05." */
 static void directories(void)
 {
     static const unsigned zeros[] = {4, 5, 6, 7, 8, 9, 12};
@@ -140,7 +130,7 @@ static void directories(void)
     }
 }
 
-/* Point 4: "The byte table of an entry counts as much as the paragraph". */
+/* Point 4: what the byte table says of an entry is part of soundness. */
 static void byte_table(void)
 {
     static const unsigned zeros[] = {11, 13, 14, 15};
@@ -167,6 +157,7 @@ static void byte_table(void)
     table_byte("4: NEVER 63", 2, 12, 63, false);
 }
 
+/* Parents, kinds and identifiers. */
 static void tree(void)
 {
     table_byte("entry 0 of kind 2", 0, 3, 2, false);
@@ -191,8 +182,8 @@ static void tree(void)
     identifier("DF with 3F00", 1, 0x3F00, false);
     identifier("DF with 3FFF", 1, 0x3FFF, false);
     identifier("DF with 7FFF", 1, 0x7FFF, false);
-    identifier("file with 0000", 2, 0x0000, true);
-    identifier("file with FFFF", 2, 0xFFFF, true);
+    identifier("9: file with 0000", 2, 0x0000, true);
+    identifier("9: file with FFFF", 2, 0xFFFF, true);
     /* Point 7. */
     made("7: the MF alone", MF_ENTRY, 1, true);
     made("7: two ADFs", MF_ENTRY "7FFF 00 03 0000 0000 00 00 05 00 00 000000"
@@ -200,11 +191,12 @@ static void tree(void)
     made("7: a DF with its parent's identifier",
          MF_ENTRY "7F10 00 02 0000 0000 00 00 05 00 00 000000"
          "7F10 01 02 0000 0000 00 00 05 00 00 000000", 1, true);
-    made("a file and a DF with one identifier",
+    made("9: a file and a DF with one identifier",
          MF_ENTRY "7F10 00 02 0000 0000 00 00 05 00 00 000000"
          "7F10 00 04 0000 0001 00 00 05 00 00 000000", 1, false);
 }
 
+/* Places, lengths and records of files. */
 static void files(void)
 {
     table_byte("length 0", 2, 7, 0, false);
@@ -235,6 +227,7 @@ static void files(void)
     made("record length 255", MF_ENTRY "6F01 00 05 0000 00FF FF 00 05 00 00 000000", 255, true);
 }
 
+/* The journal's head, how its entries fill U, and its marks. */
 static void journal_frame(void)
 {
     static struct card_bytes w;
@@ -271,6 +264,7 @@ static void journal_frame(void)
     unsound(&w, "17 scripts on trial");
 }
 
+/* Single entries of the journal. */
 static void journal_entries(void)
 {
     static struct card_bytes c;
@@ -319,12 +313,13 @@ static void journal_entries(void)
     journal("state of the MF", 1, MARK "05 0300000A00010000", false);
     journal("state of a DF", 1, MARK "05 0300001A00010000", false);
     journal("state of an ADF", 1, MARK "05 0300005A00010000", false);
-    journal("newest 2 of the cyclic file", 1, MARK "02 0300004900010000", true);
-    journal("newest 3 of the cyclic file", 1, MARK "03 0300004900010000", false);
+    journal("10: newest 2 of the cyclic file", 1, MARK "02 0300004900010000", true);
+    journal("10: newest 3 of the cyclic file", 1, MARK "03 0300004900010000", false);
     journal("byte 9 of a linear file", 1, MARK "00 0300003900010000", false);
     journal("byte 9 of a transparent file", 1, MARK "00 0300002900010000", false);
     journal("byte 8 of the cyclic file", 1, MARK "00 0300004800010000", false);
     journal("state of the last entry", 1, MARK "05 0300006A00010000", true);
+    journal("place at the table's end", 1, MARK "05 0300007000010000", false);
     journal("place behind the table", 1, MARK "05 0300007A00010000", false);
 }
 
