@@ -106,7 +106,7 @@ module _ (t : List ℕ) (e k v : ℕ) (here : e < entries t) (inside : k < 16) w
   changed-length : length (changed t e k v) ≡ length t
   changed-length = write-length t (16 * e + k) (v ∷ []) fits
 
-  pub changed-entries : entries (changed t e k v) ≡ entries t
+  changed-entries : entries (changed t e k v) ≡ entries t
   changed-entries = rw changed-length
 
   row-other : (d : ℕ) → (d ≡ e → ⊥) → rowOf (changed t e k v) d ≡ rowOf t d
@@ -155,7 +155,7 @@ module _ (t : List ℕ) (e k v : ℕ) (here : e < entries t) (low : 9 ≤ k) (hi
       num : (i : ℕ) → i + 2 ≤ 16 → (i ≡ k → ⊥) × (i + 1 ≡ k → ⊥) → numAt (entry (changed t e k v) e) i ≡ numAt (entry t e) i
       num i h z = same-num t e k v here (omega arith) i h (z .0) (z .1)
 
-  pub row-alike : (d : ℕ) → rowOf (changed t e k v) d ≡ withBytes (rowOf t d) (rowOf (changed t e k v) d .newest) (rowOf (changed t e k v) d .state)
+  row-alike : (d : ℕ) → rowOf (changed t e k v) d ≡ withBytes (rowOf t d) (rowOf (changed t e k v) d .newest) (rowOf (changed t e k v) d .state)
   row-alike d =
       elim (ℕ-discrete d e) [
         | yes q ↦ rw q row-here

@@ -1,7 +1,7 @@
 -- A command keeps its card sound, the scripts on trial, its session good, 255 waiting bytes, and what a take-back gives. Assumes nothing.
 use mathlib.Core.Path.{_≡_, refl, _∙_}
 use mathlib.Core.Bool.{true}
-use mathlib.Core.List.{List, [], _∷_}
+use mathlib.Core.List.{List}
 use Prim.Native.Nat.{ℕ, _+_, _≤_}
 use native.Mathlib.Omega.{arith}
 use lib.ListN.{length}
@@ -9,34 +9,27 @@ use Rattle.octets.specs.Bytes.{overwrite}
 use Rattle.octets.proofs.Writes.{write-length}
 use Rattle.card.specs.Row.{Card}
 use Rattle.journal.specs.Entries.{usedBytes, scriptsOnTrial, room}
-use Rattle.journal.specs.Sound.{soundCard}
-use Rattle.journal.specs.Changes.{Write, write, perform, cost, takenBack}
+use Rattle.journal.specs.Sound.{soundCard, Starts}
+use Rattle.journal.specs.Changes.{Write, perform, cost, takenBack}
 use Rattle.journal.proofs.Parts.{card-table, card-parts}
-use Rattle.journal.proofs.Written.{Writable, sound-writable, AllFit, fit-kept, write-lengths, write-scripts, write-writable, room-first, room-next}
+use Rattle.journal.proofs.Written.{Writable, sound-writable, AllFit, write-scripts, perform-same}
 use Rattle.journal.proofs.Undone.{back-perform}
-use Rattle.journal.proofs.Kept.{forms-fit, perform-sound}
+use Rattle.journal.proofs.Kept.{forms-fit, perform-alike, perform-sound}
 use Rattle.session.specs.declared.Session.{Session}
-use Rattle.session.specs.Session.{mostWaiting}
+use Rattle.session.specs.Session.{mostWaiting, start, startWaiting}
 use Rattle.session.specs.Good.{Good}
-use Rattle.session.proofs.Good.{good-kept}
+use Rattle.session.proofs.Good.{good-start, good-kept}
 use Rattle.command.specs.declared.Format.{Format}
 use Rattle.command.specs.declared.Command.{Command}
 use Rattle.command.specs.Outcomes.{Plan, failed}
 use Rattle.command.specs.Commands.{Moved, situation, planned, carriedOut}
-use Rattle.command.proofs.Rows.{rows-perform}
 use Rattle.command.proofs.Fit.{Fit}
 use Rattle.command.proofs.Planned.{planned-fit}
 use Rattle.command.proofs.Roomy.{planned-room}
 
 -- writes leave the scripts on trial
 pub perform-scripts : (ws : List Write) (c : Card) → AllFit ws c → Writable c → usedBytes (c .journal) + cost ws ≤ room (c .journal) → scriptsOnTrial (perform ws c .journal) ≡ scriptsOnTrial (c .journal)
-unfolding perform
-perform-scripts [] c fits ok left = refl
-perform-scripts (w ∷ ws) c fits ok left =
-    let first = room-first w ws c ok left in
-    perform-scripts ws (write w c) (fit-kept ws c (write w c) (write-lengths w c (fits .0)) (fits .1)) (write-writable w c (fits .0) ok first)
-    (room-next w ws c ok left (fits .0))
-    ∙ write-scripts w c (fits .0) ok first
+perform-scripts = perform-same (λ (c : Card). scriptsOnTrial (c .journal)) write-scripts
 
 -- what holds between the commands of a script: a card before it is what a take-back gives
 pub record Holds (before : Card) (s : Session) (bytes : List ℕ) (card : Card) : Type 0 where
@@ -45,6 +38,18 @@ pub record Holds (before : Card) (s : Session) (bytes : List ℕ) (card : Card) 
   pub good : Good (card .table) s
   pub waiting : length bytes ≡ mostWaiting
   pub back : takenBack card ≡ before
+
+-- a script starts on a sound card with a mark, from an application's root
+pub starts-holds : (card : Card) (application : ℕ) → Starts card application → Holds (takenBack card) (start application) startWaiting card
+unfolding startWaiting
+starts-holds card application starts =
+    record {
+      sound = starts .sound;
+      trial = starts .marked;
+      good = good-start (card .table) (card .files) (card-table card (starts .sound)) application (starts .inside) (starts .root);
+      waiting = refl;
+      back = refl;
+    }
 
 module _ (before : Card) (s : Session) (waiting : List ℕ) (card : Card) (h : Holds before s waiting card) where
   abbrev pub Carries : Plan → Type 0
@@ -57,11 +62,11 @@ module _ (before : Card) (s : Session) (waiting : List ℕ) (card : Card) (h : H
   plan-holds p fit left =
       let ok = sound-writable card (h .sound) in
       let fits = forms-fit (p .writes) card (fit .forms) in
-      let rows = rows-perform (p .writes) card (fit .forms) in
+      let rows = perform-alike (p .writes) card (card-table card (h .sound)) (fit .forms) .rows in
       record {
         sound = perform-sound (p .writes) card (h .sound) (fit .forms) left (h .trial);
         trial = rw (perform-scripts (p .writes) card fits ok left) (h .trial);
-        good = good-kept (card .table) (perform (p .writes) card .table) (rows .count) (rows .alike) (p .session) (fit .good);
+        good = good-kept (card .table) (perform (p .writes) card .table) rows (p .session) (fit .good);
         waiting = let m = fit .made in let w = h .waiting in write-length waiting 0 (p .made) (omega arith) ∙ w;
         back = back-perform (p .writes) card fits ok left ∙ h .back;
       }

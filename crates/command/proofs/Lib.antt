@@ -1,9 +1,7 @@
 pub mod Order
-pub mod Walked
 pub mod Outgoing
 pub mod Found
 pub mod Sums
-pub mod Rows
 pub mod Placed
 pub mod Instructed
 pub mod Passed
@@ -16,3 +14,4 @@ pub mod Handed
 pub mod Errors
 pub mod Readers
 pub mod ReaderCalls
+pub mod Walked

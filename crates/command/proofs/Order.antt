@@ -8,10 +8,9 @@ use Prim.Native.Nat.{ℕ}
 use lib.Dec.{eqb}
 use borrow.Author.Tests.{eqb-true}
 use Rattle.octets.specs.Choice.{pick}
-use Rattle.octets.proofs.Picks.{pick-true, pick-false, picks}
+use Rattle.octets.proofs.Picks.{pick-true, pick-false, picks, either}
 use Rattle.card.specs.declared.Row.{Row}
 use Rattle.card.specs.Row.{hasRecords}
-use Rattle.journal.proofs.Entries.{either}
 use Rattle.command.specs.Instructions as ins
 use Rattle.command.specs.Instructions.{isRecord}
 use Rattle.command.specs.Plans.{Situation}

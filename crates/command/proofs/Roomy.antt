@@ -7,14 +7,13 @@ use Prim.Native.Nat.{ℕ, _+_, _≤_}
 use native.Mathlib.Omega.{arith}
 use lib.Dec.{eqb}
 use borrow.Author.Tests.{leb-true, eqb-true}
-use Rattle.octets.proofs.Picks.{on-pick}
+use Rattle.octets.proofs.Picks.{on-pick, either}
 use Rattle.octets.specs.Choice.{pick}
 use Rattle.card.specs.declared.tree.Found.{Found}
 use Rattle.card.specs.declared.tree.Found.the-variants.{At, Nothing}
 use Rattle.card.specs.Row.{Card}
 use Rattle.journal.specs.Entries.{usedBytes, room}
 use Rattle.journal.specs.Changes.{Write, cost}
-use Rattle.journal.proofs.Entries.{either}
 use Rattle.session.specs.declared.Session.{Session}
 use Rattle.command.specs.declared.Format.{Format}
 use Rattle.command.specs.declared.Format.the-variants.{Compact, Expanded}

@@ -15,9 +15,9 @@ use Rattle.command.specs.declared.Reading.{Reading}
 use Rattle.command.specs.declared.Step.{Step}
 use Rattle.command.specs.Outcomes.{wordOf, goesOn}
 use Rattle.command.specs.Commands.{State, stateOf, started, stepped}
-use Rattle.command.proofs.Keeps.{Holds}
+use Rattle.command.proofs.Keeps.{Holds, starts-holds}
 use Rattle.compact.specs.Compact.{readAt, placeAfter, ReadingFits, stepRead, stepAt, runFrom, run}
-use Rattle.compact.proofs.Runs.{starts-holds, step-holds}
+use Rattle.compact.proofs.Runs.{step-holds}
 
 -- the place, the number of commands, what holds of session, waiting bytes and card, and what is left to run, with a count that is large enough
 pub record Going (script : List ℕ) (application domain : ℕ) (card₀ : Card) (waiting : List ℕ) (card : Card) (step : Step) (at : ℕ) : Type 0 where

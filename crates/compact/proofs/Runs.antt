@@ -1,5 +1,4 @@
 -- A compact script of bytes keeps its card sound, scripts on trial, its session good, 255 waiting bytes, and what a take-back gives. Assumes nothing.
-use mathlib.Core.Path.{refl}
 use mathlib.Core.List.{List}
 use Prim.Native.Nat.{ℕ, zero, suc, _+_, _≤_, _<_}
 use native.Mathlib.Omega.{arith}
@@ -8,11 +7,7 @@ use lib.ListN.{length, length-take}
 use Rattle.octets.proofs.Picks.{on-pick, on-test}
 use Rattle.octets.specs.Bytes.{byte, part}
 use Rattle.card.specs.Row.{Card}
-use Rattle.journal.specs.Sound.{Starts}
-use Rattle.journal.specs.Changes.{takenBack}
-use Rattle.journal.proofs.Parts.{card-table}
 use Rattle.session.specs.Session.{start, startWaiting}
-use Rattle.session.proofs.Good.{good-start}
 use Rattle.command.specs.declared.Format.the-variants.{Compact}
 use Rattle.command.specs.declared.Reading.{Reading}
 use Rattle.command.specs.Instructions.{carriesData}
@@ -32,18 +27,6 @@ on-run P script domain keeps (suc n) at st h =
     on-test P (ltb at (length script)) _ st
     (λ y. on-test P (goesOn (wordOf (stepAt script domain at st .step .outcome))) _ _ (λ g. on-run P script domain keeps n (placeAfter (readAt script at)) (stepAt script domain at st) next) (λ g. next))
     (λ y. h)
-
--- a script starts on a sound card with a mark, from an application's root
-pub starts-holds : (card : Card) (application : ℕ) → Starts card application → Holds (takenBack card) (start application) startWaiting card
-unfolding startWaiting
-starts-holds card application starts =
-    record {
-      sound = starts .sound;
-      trial = starts .marked;
-      good = good-start (card .table) (card .files) (card-table card (starts .sound)) application (starts .inside) (starts .root);
-      waiting = refl;
-      back = refl;
-    }
 
 -- what holds between its commands
 abbrev pub Kept : Card → State → Type 0

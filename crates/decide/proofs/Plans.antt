@@ -11,12 +11,11 @@ use lib.ListN.{length}
 use lib.Dec.{leb, ltb, eqb}
 use borrow.Author.Tests.{leb-true, ltb-true, eqb-true, le-leb, ne-eqb}
 use Rattle.octets.specs.Choice.{pick}
-use Rattle.octets.proofs.Picks.{pick-true, pick-false, and-left, and-right, on-pick}
+use Rattle.octets.proofs.Picks.{pick-true, pick-false, and-left, and-right, on-pick, either}
 use Rattle.card.specs.declared.tree.Found.the-variants as Found
 use Rattle.card.specs.Row.{Card, rowOf}
 use Rattle.journal.specs.Entries.{usedBytes, room}
 use Rattle.journal.specs.Changes.{cost}
-use Rattle.journal.proofs.Entries.{either}
 use Rattle.session.specs.declared.Session.{Session}
 use Rattle.command.specs.Instructions as ins
 use Rattle.command.specs.Instructions.{isKnown}

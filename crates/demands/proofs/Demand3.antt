@@ -6,14 +6,12 @@ use native.Mathlib.Omega.{arith}
 use Rattle.octets.specs.Bytes.{byte}
 use Rattle.card.specs.Row.{Card}
 use Rattle.tlv.specs.Templates.{templateOf}
-use Rattle.journal.specs.Changes.{withJournal}
-use Rattle.journal.proofs.Parts.{card-table}
 use Rattle.journal.proofs.Undone.{back-mark}
 use Rattle.session.specs.declared.Session.{Session}
 use Rattle.session.specs.Session.{start, startWaiting}
 use Rattle.command.specs.declared.Format.{Format}
 use Rattle.command.specs.declared.Format.the-variants.{Compact, Expanded}
-use Rattle.command.proofs.Keeps.{Holds}
+use Rattle.command.proofs.Keeps.{Holds, starts-holds}
 use Rattle.compact.proofs.Runs as compact
 use Rattle.expanded.proofs.Runs as expanded
 use Rattle.engine.specs.Numbers.{Arguments, formatOf, firstGiven, runRefusals}
@@ -22,9 +20,8 @@ use Rattle.demands.specs.Given.{running, takingBack, given, number}
 use Rattle.demands.specs.Demand2.{withMark}
 use Rattle.demands.specs.Demand3.{InBytes, Demand3}
 use Rattle.demands.proofs.History.{Laws, replayed}
-use Rattle.session.proofs.Good.{good-start}
 use Rattle.engine.proofs.Answers.{back-done}
-use Rattle.engine.proofs.Accepted.{is-sound, mark-room, inside, root, marked-sound, marked-trial}
+use Rattle.engine.proofs.Accepted.{is-sound, mark-room, marked-starts}
 use Rattle.demands.proofs.LawsAlike.{alike}
 use Rattle.demands.proofs.LawsRefused.{refused, notBack, notConfirm, run-number, run-done}
 
@@ -35,15 +32,8 @@ module _ (a : Arguments) (c : Card) (small : (i : ℕ) → byte (a .script) i < 
 
   -- the mark is on the card
   begins : Holds c (start (a .application)) startWaiting (withMark c)
-  unfolding startWaiting
   begins =
-      record {
-        sound = marked-sound c a free;
-        trial = unfold withJournal in marked-trial c a free;
-        good = unfold withJournal in good-start (c .table) (c .files) (card-table c (is-sound c a free)) (a .application) (inside c a free) (root c a free);
-        waiting = refl;
-        back = back-mark c (is-sound c a free) (mark-room c a free);
-      }
+      rw (back-mark c (is-sound c a free) (mark-room c a free)) at (starts-holds (withMark c) (a .application) (marked-starts c a free))
 
   -- and what holds at the script's start holds at its end
   ends : (f : Format) → (s : Session) × (waiting : List ℕ) × Holds c s waiting (runScript f a (withMark c) .card)

@@ -15,8 +15,7 @@ use Rattle.journal.specs.Changes.{withJournal, behindMark, bytesTaken, takenBac
 use Rattle.journal.proofs.Behind.{behind-less}
 use Rattle.journal.proofs.Written.{sound-writable}
 use Rattle.journal.proofs.Cut.{cut-length, cut-scripts, cut-used}
-use Rattle.journal.proofs.Kept.{taken-sound}
-use Rattle.command.proofs.Rows.{rows-taken}
+use Rattle.journal.proofs.Kept.{taken-alike, taken-sound}
 use Rattle.engine.specs.Numbers.{Arguments, applicationFits, argumentsFit, scriptFits, leastResponse, markFits, templateFits, formatOf}
 use Rattle.engine.specs.Calls.{numbered, run}
 use Rattle.demands.specs.Given.{Call, running, takingBack, confirming, given, number, lentResponse, seen}
@@ -45,7 +44,7 @@ module _ (c : Card) (sound : soundCard c ≡ true) where
   arguments-back : (a : Arguments) → argumentsFit (takenBack c .table) a ≡ argumentsFit (c .table) a
   unfolding argumentsFit applicationFits
   arguments-back a =
-      let r = rows-taken c sound in
+      let r = taken-alike c sound .rows in
       λ i. leb (a .format) 1 && ((eqb (a .application) 0 || (ltb (a .application) (r .count i) && isADF (r .alike (a .application) i))) && (eqb (a .domain) 0x00 || eqb (a .domain) 0xFF))
 
 -- a number that is not 5 stays where a mark fits wherever it fitted before

@@ -18,9 +18,10 @@ use Rattle.command.specs.declared.Format.the-variants.{Compact, Expanded}
 use Rattle.command.specs.declared.Step.{Step}
 use Rattle.command.specs.Outcomes.{dataCount, OutcomeFits}
 use Rattle.command.specs.Commands.{State, stateOf, started}
+use Rattle.command.proofs.Keeps.{starts-holds}
 use Rattle.command.proofs.Outgoing.{data-few}
 use Rattle.compact.specs.Compact as compact
-use Rattle.compact.proofs.Runs.{starts-holds, run-keeps}
+use Rattle.compact.proofs.Runs.{run-keeps}
 use Rattle.compact.proofs.Fits.{outcome-inside}
 use Rattle.compact.proofs.Answered.{answer-length}
 use Rattle.compact.proofs.Counts.{count-byte}

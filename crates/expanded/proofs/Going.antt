@@ -13,13 +13,11 @@ use Rattle.tlv.specs.declared.template.Item.the-variants.{Capdu, Bad, End}
 use Rattle.tlv.specs.Templates.{leastCapdu, itemAt, ItemFits}
 use Rattle.journal.specs.Sound.{Starts}
 use Rattle.journal.specs.Changes.{takenBack}
-use Rattle.journal.proofs.Parts.{card-table}
 use Rattle.session.specs.Session.{startWaiting}
-use Rattle.session.proofs.Good.{good-start}
 use Rattle.command.specs.declared.Step.{Step}
 use Rattle.command.specs.Outcomes.{wordOf, goesOn}
 use Rattle.command.specs.Commands.{started, stepped}
-use Rattle.command.proofs.Keeps.{Holds}
+use Rattle.command.proofs.Keeps.{Holds, starts-holds}
 use Rattle.step.specs.Limits.{mostKept}
 use Rattle.expanded.specs.declared.run.Gathered.{Gathered}
 use Rattle.expanded.specs.Expanded.{roomToGather, Progress, progressOf, answered, stepCapdu, stepBad, runFrom, begun}
@@ -95,13 +93,7 @@ module _ {script : List ℕ} {definite : Bool} {from end application domain : �
         counted = rw is (omega arith);
         kept = omega arith;
         room = omega arith;
-        holds = record {
-          sound = starts .sound;
-          trial = starts .marked;
-          good = rw is (good-start (card₀ .table) (card₀ .files) (card-table card₀ (starts .sound)) application (starts .inside) (starts .root));
-          waiting = refl;
-          back = refl;
-        };
+        holds = rw is (starts-holds card₀ application starts);
         fuel = length script;
         enough = omega arith;
         whole = rw is;

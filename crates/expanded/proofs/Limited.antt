@@ -9,7 +9,7 @@ use lib.ListN.{length}
 use borrow.Author.Tests.{ltb-false}
 use Rattle.octets.specs.Choice.{pick}
 use Rattle.octets.specs.Bytes.{overwrite}
-use Rattle.octets.proofs.Picks.{on-pick}
+use Rattle.octets.proofs.Picks.{on-pick, or-none}
 use Rattle.card.specs.Row.{Card}
 use Rattle.tlv.specs.Lengths.{lengthBytes}
 use Rattle.journal.specs.Sound.{soundCard}
@@ -25,11 +25,6 @@ use Rattle.command.proofs.Handed.{waiting-kept, outcome-fits, no-data}
 use Rattle.step.specs.Limits.{rapduSize, mostKept, limited}
 use Rattle.step.proofs.Limited.{passes, by-passing}
 use Rattle.expanded.specs.Expanded.{keeps, roomToGather}
-
--- an R-APDU that is not kept is of another case
-none-kept : (definite b : Bool) → (not definite || b) ≡ false → b ≡ false
-none-kept true b h = h
-none-kept false b h = absurd (false≢true (sym h))
 
 module _ (kept : ℕ) (counts : Bool) (s : Session) (few : kept ≤ mostKept) where
   -- a command on a sound card: its outcome, the waiting bytes, and the room of its R-APDU behind those kept
@@ -66,7 +61,7 @@ module _ (kept : ℕ) (counts : Bool) (s : Session) (few : kept ≤ mostKept) wh
       where
         by-count : (b : Bool) → passes kept b (dataCount (plan .outcome)) ≡ false → b ≡ keeps definite (c .case) → kept + rapduSize (dataCount (plan .outcome)) ≤ roomToGather
         by-count true fits is = let h = ltb-false mostKept (kept + rapduSize (dataCount (plan .outcome))) fits in omega arith
-        by-count false fits is = rw (no-data (situation Expanded domain c «data» s card) (none-kept definite (eqb (c .case) 2 || eqb (c .case) 4) (sym is))) (omega arith)
+        by-count false fits is = rw (no-data (situation Expanded domain c «data» s card) (or-none (not definite) (eqb (c .case) 2 || eqb (c .case) 4) (sym is))) (omega arith)
 
     -- the same of the step after it
     module _ (before next : Step) (bytes : List ℕ) (after : Card) (long : length waiting ≡ mostWaiting) (e : stateOf next bytes after ≡ stepped (stateOf before waiting card) (carriedOut left waiting card)) where

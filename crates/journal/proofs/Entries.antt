@@ -8,8 +8,7 @@ use native.Mathlib.Nat.{eq-or-lt-of-le, le-refl}
 use native.Mathlib.Omega.{arith}
 use borrow.Author.Tests.{leb-true, ne-eqb}
 use Rattle.octets.specs.Bytes.{part}
-use Rattle.octets.proofs.Picks.{and-left, refuted}
-pub use Rattle.octets.proofs.Picks.{either}
+use Rattle.octets.proofs.Picks.{either, and-left, refuted}
 use Rattle.octets.proofs.Writes.{part-part}
 use Rattle.journal.specs.declared.Tail.{Tail}
 use Rattle.journal.specs.Entries.{Entry, headSize, usedBytes, tailSize, entryBytes, tailBytes, tailIn, tailAt, formed, oldPlace, entryAt, readable, noEntry, entriesBack, entriesOf}

@@ -17,7 +17,7 @@ use Rattle.card.specs.Row.{entries, rowOf, isCyclic, isDirectory, isFile, hasRe
 use Rattle.card.specs.Sound.{recordCount, soundTable}
 use Rattle.card.specs.Tree.{isRoot, rootIn, rootOf}
 use Rattle.card.proofs.Promises.{file-kind, cyclic-records, records-some, entry-own, first-kind, no-directory-file, parent-directory}
-use Rattle.card.proofs.Kept.{withBytes}
+use Rattle.card.proofs.Kept.{Rows}
 use Rattle.session.specs.declared.Session.{Session}
 use Rattle.session.specs.Session.{none, mostWaiting, start, waits, dropped, atRecord, moved, selected}
 use Rattle.session.specs.Select.{find}
@@ -75,28 +75,28 @@ module _ (t : List ℕ) (s : Session) (g : Good t s) where
   good-dropped = good-waits 0 0 (omega arith)
 
 -- a table with the same entries, but for the bytes of the newest record and of the state
-module _ (t u : List ℕ) (count : entries u ≡ entries t) (alike : (d : ℕ) → rowOf u d ≡ withBytes (rowOf t d) (rowOf u d .newest) (rowOf u d .state)) where
+module _ (t u : List ℕ) (rows : Rows t u) where
   same-root : (n e : ℕ) → rootIn n u e ≡ rootIn n t e
   unfolding rootIn
   same-root zero e = refl
-  same-root (suc n) e = λ i. elim (isRoot (alike e i)) [ true ↦ e | false ↦ same-root n (alike e i .parent) i ]
+  same-root (suc n) e = λ i. elim (isRoot (rows .alike e i)) [ true ↦ e | false ↦ same-root n (rows .alike e i .parent) i ]
 
   belongs-kept : (root e : ℕ) → Belongs t root e → Belongs u root e
   unfolding rootOf
-  belongs-kept root e b = record { inside = rw count (b .inside); owner = same-root e e ∙ b .owner }
+  belongs-kept root e b = record { inside = rw (rows .count) (b .inside); owner = same-root e e ∙ b .owner }
 
   pub good-kept : (s : Session) → Good t s → Good u s
   good-kept s g =
       record {
-        rootInside = rw count (g .rootInside);
-        root = ap isRoot (alike (s .root)) ∙ g .root;
+        rootInside = rw (rows .count) (g .rootInside);
+        root = ap isRoot (rows .alike (s .root)) ∙ g .root;
         directory = belongs-kept (s .root) (s .directory) (g .directory);
-        isDirectory = ap isDirectory (alike (s .directory)) ∙ g .isDirectory;
+        isDirectory = ap isDirectory (rows .alike (s .directory)) ∙ g .isDirectory;
         file = λ h. record {
           belongs = belongs-kept (s .root) (s .file) (g .file h .belongs);
-          isFile = ap isFile (alike (s .file)) ∙ g .file h .isFile;
-          numbered = λ p. ap hasRecords (alike (s .file)) ∙ g .file h .numbered p;
-          within = λ p. rw (ap recordCount (alike (s .file))) (g .file h .within p);
+          isFile = ap isFile (rows .alike (s .file)) ∙ g .file h .isFile;
+          numbered = λ p. ap hasRecords (rows .alike (s .file)) ∙ g .file h .numbered p;
+          within = λ p. rw (ap recordCount (rows .alike (s .file))) (g .file h .within p);
         };
         unnumbered = g .unnumbered;
         valid = g .valid;

@@ -1,9 +1,9 @@
 -- `cases::show` is safe and ends. Assumes nothing.
-use mathlib.Core.Path.{sym, _∙_}
+use mathlib.Core.Path.{sym}
 use native.Mathlib.Omega.{arith}
 use lib.Seq.{length-take-le}
-use borrow.Author.Tests.{not-false}
 use borrow.Author.Needs.{needs}
+use Rattle.octets.proofs.Picks.{told-true}
 use Rattle.cases.proofs.show.Statement.{statement}
 use Rattle.cases.proofs.show.Tie as tie
 
@@ -23,7 +23,7 @@ slice-aggregate-put-case : tie.Need-slice-aggregate-put-case
 slice-aggregate-put-case c = search needs
 
 put-case-requires : tie.Need-put-case-requires
-put-case-requires c κs = (omega arith, sym (c .before .before .is-case .ensures) ∙ not-false _ (c .before .if1 .left))
+put-case-requires c κs = (omega arith, told-true (c .before .before .is-case .ensures) (c .before .if1 .left))
 
 array-share-prefix-out : tie.Need-array-share-prefix-out
 array-share-prefix-out c = search needs

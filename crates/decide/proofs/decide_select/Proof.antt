@@ -4,8 +4,8 @@ use mathlib.Core.Bool.{true}
 use mathlib.Core.List.{List}
 use Prim.Native.Nat.{ℕ}
 use native.Mathlib.Omega.{arith}
-use borrow.Author.Tests.{not-true, not-false}
 use lib.ListN.{length}
+use Rattle.octets.proofs.Picks.{told-false, told-true}
 use Rattle.card.specs.declared.tree.Found.the-variants as Found
 use Rattle.card.specs.Row.{rowOf}
 use Rattle.session.specs.Select.{find}
@@ -28,7 +28,7 @@ returns : tie.Need-returns
 returns c = (
   λ w f k d s t g.
       c .failed .ensures .0 (c .before .before .before .before .before .before .args .«data» .now) _ ∙ (λ i. failed (sym s i) 0x6700)
-      ∙ select-wrong w ((λ i. pathLengthFits (k i .p1) (length (d i))) ∙ sym (c .before .before .path-length-fits .ensures) ∙ not-true _ (c .before .if1 .taken)),
+      ∙ select-wrong w ((λ i. pathLengthFits (k i .p1) (length (d i))) ∙ told-false (c .before .before .path-length-fits .ensures) (c .before .if1 .taken)),
   c .failed .ensures .1,
 )
 
@@ -44,7 +44,7 @@ module _ (c : tie.Else1) where
   start = c .before .before .before .before .before
 
   fitting : pathLengthFits (start .args .c .p1) (length (start .args .«data» .now)) ≡ true
-  fitting = sym (c .before .path-length-fits .ensures) ∙ not-false _ (c .if1 .left)
+  fitting = told-true (c .before .path-length-fits .ensures) (c .if1 .left)
 
   fitting-so : (w : Situation) → w .command ≡ start .args .c → w .«data» ≡ start .args .«data» .now → pathLengthFits (w .command .p1) (length (w .«data»)) ≡ true
   fitting-so w k d = (λ i. pathLengthFits (k i .p1) (length (d i))) ∙ fitting

@@ -5,7 +5,7 @@ use mathlib.Core.List.{List, []}
 use Prim.Native.Nat.{ℕ}
 use native.Mathlib.Omega.{arith}
 use borrow.Author.Needs.{needs}
-use borrow.Author.Tests.{not-true, not-false}
+use Rattle.octets.proofs.Picks.{told-false, told-true}
 use Rattle.card.specs.Row.{Card, lent}
 use Rattle.journal.specs.Entries.{room}
 use Rattle.journal.specs.Sound.{soundCard}
@@ -37,11 +37,11 @@ same-length-3 c = search needs
 returns : tie.Need-returns
 returns c =
     answers-number 1 (omega arith) (c .numbered .ensures) _ _
-    (sym (confirm-unsound _ (sym (c .before .before .sound-card .ensures) ∙ not-true (c .before .before .sound-card .result) (c .before .if1 .taken))))
+    (sym (confirm-unsound _ (told-false (c .before .before .sound-card .ensures) (c .before .if1 .taken))))
 
 -- past the test, the card is sound
 sound : (o : tie.Else1) → soundCard (cardOf (o .before .before .before .before .before .before .before .before)) ≡ true
-sound o = sym (o .before .sound-card .ensures) ∙ not-false (o .before .sound-card .result) (o .if1 .left)
+sound o = told-true (o .before .sound-card .ensures) (o .if1 .left)
 
 confirm-requires : tie.Need-confirm-requires
 unfolding room

@@ -4,7 +4,7 @@ use mathlib.Core.Bool.{true}
 use mathlib.Core.List.{[]}
 use native.Mathlib.Omega.{arith}
 use borrow.Author.Needs.{needs}
-use borrow.Author.Tests.{not-true, not-false}
+use Rattle.octets.proofs.Picks.{told-false, told-true}
 use Rattle.card.specs.Row.{Card, lent}
 use Rattle.journal.specs.Entries.{scriptsOnTrial}
 use Rattle.journal.specs.Sound.{soundCard}
@@ -35,11 +35,11 @@ same-length-3 c = search needs
 returns : tie.Need-returns
 returns c =
     answers-number 1 (omega arith) (c .numbered .ensures) _ _
-    (sym (back-unsound _ (sym (c .before .before .sound-card .ensures) ∙ not-true (c .before .before .sound-card .result) (c .before .if1 .taken))))
+    (sym (back-unsound _ (told-false (c .before .before .sound-card .ensures) (c .before .if1 .taken))))
 
 -- past the tests, the card is sound and has a script on trial
 sound : (o : tie.Else1) → soundCard (cardOf (o .before .before .before .before .before .before .before .before)) ≡ true
-sound o = sym (o .before .sound-card .ensures) ∙ not-false (o .before .sound-card .result) (o .if1 .left)
+sound o = told-true (o .before .sound-card .ensures) (o .if1 .left)
 
 some : (o : tie.Else2) → scriptsOnTrial (cardOf (o .before .before .before .before .before .before .before .before .before .before .before) .journal) ≡ 0 → ⊥
 some o none = o .if2 .left (o .before .scripts-on-trial .ensures .0 ∙ none)

@@ -4,7 +4,7 @@ use Prim.Native.Nat.{_-_}
 use native.Mathlib.Omega.{arith}
 use lib.ListN.{length}
 use borrow.Author.Needs.{needs}
-use borrow.Author.Tests.{not-true, not-false}
+use Rattle.octets.proofs.Picks.{told-false, told-true}
 use Rattle.card.specs.Row.{lent}
 use Rattle.card.proofs.Promises.{few-entries}
 use Rattle.journal.proofs.Parts.{card-table}
@@ -85,7 +85,7 @@ returns c =
     let r = c .before .before .before .before .before .before .before .before .before .before .before .before .before .before .before .before .before .before .next-reading in
     let done = c .before .before .before .before .before .before .before .before .before .before .before .before .step-read in
     stops (l .inv .5) (c .before .before .before .before .before .before .before .before .before .before .before .before .before .before .before .before .before .before .before .loop-test .taken) (done .ensures) (r .ensures .0)
-    (sym (ap goesOn (c .before .before .word-of .ensures)) ∙ sym (c .before .goes-on .ensures) ∙ not-true (c .before .goes-on .result) (c .if1 .taken))
+    (sym (ap goesOn (c .before .before .word-of .ensures)) ∙ told-false (c .before .goes-on .ensures) (c .if1 .taken))
 
 add-at : tie.Need-add-at Inv-loop μ-loop
 unfolding placeAfter
@@ -113,7 +113,7 @@ loop-again c =
       omega arith,
       omega arith,
       goes (l .inv .5) (c .before .before .before .before .before .before .before .before .before .before .before .before .before .before .before .before .before .before .before .before .loop-test .taken) (done .ensures) (r .ensures .0) (λ i. c .before .before .before .before .before .before .before .before .before .before .before .before .before .before .before .before .before .before .before .before .before .before .before .before .before .before .before .shared-slice-known .given i .fits) (r .ensures .1)
-          (sym (ap goesOn (c .before .before .before .word-of .ensures)) ∙ sym (c .before .before .goes-on .ensures) ∙ not-false (c .before .before .goes-on .result) (c .before .if1 .left)),
+          (sym (ap goesOn (c .before .before .before .word-of .ensures)) ∙ told-true (c .before .before .goes-on .ensures) (c .before .if1 .left)),
     )
 
 same-length-5 : tie.Need-same-length-5 Inv-loop μ-loop

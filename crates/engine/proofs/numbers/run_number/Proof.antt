@@ -5,7 +5,7 @@ use Prim.Native.Nat.{_≤_}
 use native.Mathlib.Omega.{arith}
 use lib.ListN.{length}
 use borrow.Author.Needs.{needs}
-use borrow.Author.Tests.{not-true, not-false}
+use Rattle.octets.proofs.Picks.{told-false, told-true}
 use Rattle.card.specs.Row.{Card, lent}
 use Rattle.card.proofs.Promises.{parents-smaller}
 use Rattle.journal.specs.Sound.{soundCard}
@@ -32,28 +32,28 @@ sound-card-requires : tie.Need-sound-card-requires
 sound-card-requires c κs = search needs
 
 returns : tie.Need-returns
-returns c = (meets-1 _ _ (sym (c .before .sound-card .ensures) ∙ not-true (c .before .sound-card .result) (c .if1 .taken)), omega arith)
+returns c = (meets-1 _ _ (told-false (c .before .sound-card .ensures) (c .if1 .taken)), omega arith)
 
 -- what is known past each test
 sound : (o : tie.Else1) → soundCard (cardOf (o .before .before .before .before .before .before .before)) ≡ true
-sound o = sym (o .before .sound-card .ensures) ∙ not-false (o .before .sound-card .result) (o .if1 .left)
+sound o = told-true (o .before .sound-card .ensures) (o .if1 .left)
 
-arguments : (o : tie.After-arguments-fit) → argumentsFit (cardOf (o .before .before .before .before .before .before .before .before) .table) (argumentsOf (o .before .before .before .before .before .before .before .before)) ≡ o .arguments-fit .result
+arguments : (o : tie.After-arguments-fit) → o .arguments-fit .result ≡ argumentsFit (cardOf (o .before .before .before .before .before .before .before .before) .table) (argumentsOf (o .before .before .before .before .before .before .before .before))
 arguments o =
     let card = cardOf (o .before .before .before .before .before .before .before .before) in
-    arguments-root (card .table) (card .files) (card-table card (sound (o .before))) (argumentsOf (o .before .before .before .before .before .before .before .before)) ∙ sym (o .arguments-fit .ensures)
+    o .arguments-fit .ensures ∙ sym (arguments-root (card .table) (card .files) (card-table card (sound (o .before))) (argumentsOf (o .before .before .before .before .before .before .before .before)))
 
 known : (o : tie.Else2) → argumentsFit (cardOf (o .before .before .before .before .before .before .before .before .before) .table) (argumentsOf (o .before .before .before .before .before .before .before .before .before)) ≡ true
-known o = arguments (o .before) ∙ not-false (o .before .arguments-fit .result) (o .if2 .left)
+known o = told-true (arguments (o .before)) (o .if2 .left)
 
 script : (o : tie.Else3) → scriptFits (o .before .before .before .before .before .before .before .before .before .before .before .args .script .now) ≡ true
-script o = sym (o .before .script-fits .ensures) ∙ not-false (o .before .script-fits .result) (o .if3 .left)
+script o = told-true (o .before .script-fits .ensures) (o .if3 .left)
 
 response : (o : tie.Else4) → 1024 ≤ length (o .before .before .before .before .before .before .before .before .before .before .before .before .args .response .now)
 response o = omega (arith, o .if4 .left)
 
 mark : (o : tie.Else5) → markFits (o .before .before .before .before .before .before .before .before .before .before .before .before .before .before .args .journal .now) ≡ true
-mark o = sym (o .before .mark-fits .ensures) ∙ not-false (o .before .mark-fits .result) (o .if5 .left)
+mark o = told-true (o .before .mark-fits .ensures) (o .if5 .left)
 
 arguments-fit-requires : tie.Need-arguments-fit-requires
 arguments-fit-requires c κs =
@@ -61,13 +61,13 @@ arguments-fit-requires c κs =
     parents-smaller (card .table) (card .files) (card-table card (sound c))
 
 returns-2 : tie.Need-returns-2
-returns-2 c = (meets-2 _ _ (sound (c .before .before)) (arguments (c .before) ∙ not-true (c .before .arguments-fit .result) (c .if2 .taken)), omega arith)
+returns-2 c = (meets-2 _ _ (sound (c .before .before)) (told-false (arguments (c .before)) (c .if2 .taken)), omega arith)
 
 script-fits-requires : tie.Need-script-fits-requires
 script-fits-requires c κs = search needs
 
 returns-3 : tie.Need-returns-3
-returns-3 c = (meets-3 _ _ (sound (c .before .before .before .before)) (known (c .before .before)) (sym (c .before .script-fits .ensures) ∙ not-true (c .before .script-fits .result) (c .if3 .taken)), omega arith)
+returns-3 c = (meets-3 _ _ (sound (c .before .before .before .before)) (known (c .before .before)) (told-false (c .before .script-fits .ensures) (c .if3 .taken)), omega arith)
 
 returns-4 : tie.Need-returns-4
 returns-4 c = (meets-4 _ _ (sound (c .before .before .before .before .before)) (known (c .before .before .before)) (script (c .before)) (omega (arith, c .if4 .taken)), omega arith)
@@ -78,7 +78,7 @@ mark-fits-requires c κs = omega (arith, card-parts (cardOf (c .before .before .
 returns-5 : tie.Need-returns-5
 returns-5 c =
     let o = c .before .before in
-    (meets-5 _ _ (sound (o .before .before .before .before .before)) (known (o .before .before .before)) (script (o .before)) (response o) (sym (c .before .mark-fits .ensures) ∙ not-true (c .before .mark-fits .result) (c .if5 .taken)), omega arith)
+    (meets-5 _ _ (sound (o .before .before .before .before .before)) (known (o .before .before .before)) (script (o .before)) (response o) (told-false (c .before .mark-fits .ensures) (c .if5 .taken)), omega arith)
 
 template-fits-requires : tie.Need-template-fits-requires
 template-fits-requires c κs = search needs
@@ -86,12 +86,12 @@ template-fits-requires c κs = search needs
 returns-6 : tie.Need-returns-6
 returns-6 c =
     let o = c .before .before .before .before in
-    (meets-6 _ _ (sound (o .before .before .before .before .before)) (known (o .before .before .before)) (script (o .before)) (response o) (mark (c .before .before)) (sym (c .before .template-fits .ensures) ∙ not-true (c .before .template-fits .result) (c .if6 .taken)), omega arith)
+    (meets-6 _ _ (sound (o .before .before .before .before .before)) (known (o .before .before .before)) (script (o .before)) (response o) (mark (c .before .before)) (told-false (c .before .template-fits .ensures) (c .if6 .taken)), omega arith)
 
 returns-7 : tie.Need-returns-7
 returns-7 c =
     let o = c .before .before .before .before in
-    (meets-none _ _ (sound (o .before .before .before .before .before)) (known (o .before .before .before)) (script (o .before)) (response o) (mark (c .before .before)) (sym (c .before .template-fits .ensures) ∙ not-false (c .before .template-fits .result) (c .if6 .left)), omega arith)
+    (meets-none _ _ (sound (o .before .before .before .before .before)) (known (o .before .before .before)) (script (o .before)) (response o) (mark (c .before .before)) (told-true (c .before .template-fits .ensures) (c .if6 .left)), omega arith)
 
 pub run-number-spec : {M : Type 1} → statement M
 run-number-spec =

@@ -4,7 +4,7 @@ use Prim.Native.Nat.{_-_}
 use native.Mathlib.Omega.{arith}
 use lib.ListN.{length}
 use borrow.Author.Needs.{needs}
-use borrow.Author.Tests.{not-true, not-false}
+use Rattle.octets.proofs.Picks.{told-false, told-true}
 use Rattle.octets.proofs.Writes.{part-length}
 use Rattle.card.specs.Row.{lent}
 use Rattle.card.proofs.Promises.{few-entries}
@@ -112,7 +112,7 @@ returns c =
     let done = c .before .before .before .before .before .before .before .before .before .before .before .before .before .before .before .step-capdu in
     let d = stops (l .inv .6) (i .ensures .0) (i .ensures .1) (done .result) _ _ _ (done .ensures .1) (k .1)
     _ (c .before .before .before .before .before .before .before .before .before .before .before .before .before .before .before .before .before .before .before .before .before .before .capdu .ensures) (done .ensures .0)
-    (sym (ap goesOn (c .before .before .word-of .ensures)) ∙ sym (c .before .goes-on .ensures) ∙ not-true (c .before .goes-on .result) (c .if1 .taken)) in
+    (sym (ap goesOn (c .before .before .word-of .ensures)) ∙ told-false (c .before .goes-on .ensures) (c .if1 .taken)) in
     (d .0, d .1, omega (arith, d .2, s .pre .1, s .pre .2))
 
 add-place : tie.Need-add-place Inv-loop μ-loop
@@ -134,7 +134,7 @@ loop-again c =
     let i = c .before .before .before .before .before .before .before .before .before .before .before .before .before .before .before .before .before .before .before .before .before .before .before .before .before .before .next-item in
     let k = c .before .before .before .before .before .before .before .before .before .before .before .before .before .before .before .before .before .before .before .before .before .before .before .before .from .given in
     let done = c .before .before .before .before .before .before .before .before .before .before .before .before .before .before .before .step-capdu in
-    let on = sym (ap goesOn (c .before .before .word-of .ensures)) ∙ sym (c .before .goes-on .ensures) ∙ not-false (c .before .goes-on .result) (c .if1 .left) in (
+    let on = sym (ap goesOn (c .before .before .word-of .ensures)) ∙ told-true (c .before .goes-on .ensures) (c .if1 .left) in (
       omega (arith, done .kept, l .inv .0),
       omega (arith, done .kept, l .inv .1),
       omega (arith, done .kept, l .inv .2),

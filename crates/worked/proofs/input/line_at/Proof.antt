@@ -1,8 +1,8 @@
 -- `worked::input::line_at` meets its contract: each `return` is a case of `lineAt`. Assumes nothing.
-use mathlib.Core.Path.{sym, ap, _∙_}
+use mathlib.Core.Path.{ap, _∙_}
 use Prim.Native.Nat.{_+_}
 use lib.ListN.{length}
-use borrow.Author.Tests.{not-true, not-false}
+use Rattle.octets.proofs.Picks.{told-false, told-true}
 use Rattle.worked.specs.declared.input.Line.the-variants.{Value}
 use Rattle.worked.specs.Input.{LineFits}
 use Rattle.worked.proofs.Reading.{too-short, line-missing, line-named}
@@ -33,7 +33,7 @@ returns-3 : tie.Need-returns-3
 unfolding LineFits
 returns-3 c =
     let f = c .before .starts-at in
-    (line-missing _ _ _ (sym (f .ensures) ∙ not-true (f .result) (c .if3 .taken)), tt)
+    (line-missing _ _ _ (told-false (f .ensures) (c .if3 .taken)), tt)
 
 add-from : tie.Need-add-from
 add-from c = search needs
@@ -46,7 +46,7 @@ unfolding LineFits
 returns-4 c =
     let a = c .before .before .before .before .before .before .before .args in
     let f = c .before .before .starts-at in
-    (ap (Value (a .at + length (a .name .now))) (c .line-end .ensures .0) ∙ line-named _ _ _ (sym (f .ensures) ∙ not-false (f .result) (c .before .if3 .left)), (c .line-end .ensures .1, c .line-end .ensures .2))
+    (ap (Value (a .at + length (a .name .now))) (c .line-end .ensures .0) ∙ line-named _ _ _ (told-true (f .ensures) (c .before .if3 .left)), (c .line-end .ensures .1, c .line-end .ensures .2))
 
 pub line-at-spec : {M : Type 1} → statement M
 line-at-spec =
