@@ -16,8 +16,9 @@ use Rattle.command.specs.declared.Format.the-variants.{Expanded}
 use Rattle.command.specs.declared.Reading.{Reading}
 use Rattle.command.specs.declared.Step.{Step}
 use Rattle.command.specs.Outcomes.{wordOf, goesOn}
-use Rattle.command.specs.Commands.{State, stateOf, situation, planned, carriedOut, stepped}
-use Rattle.step.specs.Limits.{mostKept, limited}
+use Rattle.command.specs.Commands.{State, stateOf, stepped}
+use Rattle.step.specs.Limits.{mostKept}
+use Rattle.step.specs.Steps.{commanded}
 use Rattle.expanded.specs.declared.run.Gathered.{Gathered}
 use Rattle.expanded.specs.Capdu.{capduCommand}
 use Rattle.expanded.specs.Expanded.{badFormat, keeps, roomToGather, Progress, progressOf, answered, gatheredIn, lastRapdu, stepCapdu, stepBad}
@@ -44,7 +45,7 @@ module _ (before : Gathered) (waiting : List ℕ) (card : Card) (out : List ℕ)
   abbrev after : ℕ → Reading → ℕ → Bool → List ℕ → State
   after domain r kept counts «data» =
       stepped (stateOf (before .step) waiting card)
-      (carriedOut (limited kept counts (before .step .session) (planned (situation Expanded domain (r .command) «data» (before .step .session) card))) waiting card)
+      (commanded Expanded domain (r .command) «data» (before .step .session) kept counts waiting card)
 
   -- a C-APDU that was run
   module _ (definite : Bool) (domain : ℕ) (capdu : List ℕ) (r : Reading) (is : r ≡ capduCommand capdu) (counts : Bool) (hc : counts ≡ keeps definite (r .command .case)) («data» : List ℕ) (hd : «data» ≡ part capdu (r .from) (r .count))

@@ -12,13 +12,13 @@ use Rattle.tlv.specs.declared.template.Template.the-variants.{Definite, Indefin
 use Rattle.tlv.specs.declared.template.Item.the-variants.{Capdu, Bad, End}
 use Rattle.tlv.specs.Lengths.{lengthBytes}
 use Rattle.tlv.specs.Templates.{itemAt}
-use Rattle.session.specs.declared.Session.{Session}
 use Rattle.command.specs.declared.Format.the-variants.{Expanded}
 use Rattle.command.specs.declared.Reading.{Reading}
 use Rattle.command.specs.declared.Step.{Step}
-use Rattle.command.specs.Outcomes.{Plan, wordOf, dataOf, goesOn}
-use Rattle.command.specs.Commands.{State, stateOf, started, planned, situation, carriedOut, stepped}
-use Rattle.step.specs.Limits.{mostKept, limited}
+use Rattle.command.specs.Outcomes.{wordOf, dataOf, goesOn}
+use Rattle.command.specs.Commands.{State, stateOf, started, stepped}
+use Rattle.step.specs.Limits.{mostKept}
+use Rattle.step.specs.Steps.{commanded}
 use Rattle.expanded.specs.declared.run.Gathered.{Gathered}
 use Rattle.expanded.specs.Capdu.{capduCommand}
 
@@ -73,13 +73,9 @@ unfoldable pub stepCapdu : Bool → ℕ → List ℕ → Progress → Progress
 stepCapdu definite domain capdu p =
     let r : Reading = capduCommand capdu in
     let counts : Bool = keeps definite (r .command .case) in
-    let session : Session = p .state .step .session in
-    let plan : Plan =
-    planned (situation Expanded domain (r .command) (part capdu (r .from) (r .count)) session (p .state .card))
-    in
     let st : State =
     stepped (p .state)
-    (carriedOut (limited (length (p .kept)) counts session plan) (p .state .waiting) (p .state .card))
+    (commanded Expanded domain (r .command) (part capdu (r .from) (r .count)) (p .state .step .session) (length (p .kept)) counts (p .state .waiting) (p .state .card))
     in
     answered counts st (p .kept) (lastRapdu (st .step) (st .card .files) (st .waiting))
 

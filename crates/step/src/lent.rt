@@ -6,13 +6,12 @@ use command::Outcome;
 use command::Step;
 use session::Session;
 ghost use mathlib.Core.Path.{_≡_};
-ghost use Prim.Native.Nat.{_+_, _≤_, _<_};
+ghost use Prim.Native.Nat.{_+_};
 ghost use lib.ListN.{length};
 ghost use Rattle.card.specs.Row.{lent};
-ghost use Rattle.command.specs.Commands.{stateOf, situation, planned, carriedOut, stepped};
+ghost use Rattle.command.specs.Commands.{stateOf, stepped};
 ghost use Rattle.plan.specs.Decisions.{movedTo};
-ghost use Rattle.step.specs.Limits as limits;
-ghost use Rattle.decide.specs.Decisions.{Ready};
+ghost use Rattle.step.specs.Steps as spec;
 
 // How a command ended, and how many there were with it.
 pub struct Ended {
@@ -36,10 +35,9 @@ fn step(
     files: &mut [u8],
     journal: &mut [u8],
 ) -> Ended
-    requires { ⌜ Ready (lent (now table) (now files) (now journal)) (now session) c (length (now «data»)) × (count < 65535) × (kept ≤ 1000) × (length (now made) ≡ 255) × (length (now waiting) ≡ 255) ⌝ }
+    requires { ⌜ spec.MayRun (lent (now table) (now files) (now journal)) (now session) c (length (now «data»)) count kept (now made) (now waiting) ⌝ }
     ensures { λ r. ⌜ (movedTo (now (session .exit)) (r .outcome) (now (waiting .exit)) (lent (now (table .exit)) (now (files .exit)) (now (journal .exit)))
-        ≡ carriedOut (limits.limited kept counts (now (session .entry)) (planned (situation format domain c (now («data» .entry)) (now (session .entry)) (lent (now (table .entry)) (now (files .entry)) (now (journal .entry))))))
-        (now (waiting .entry)) (lent (now (table .entry)) (now (files .entry)) (now (journal .entry))))
+        ≡ spec.commanded format domain c (now («data» .entry)) (now (session .entry)) kept counts (now (waiting .entry)) (lent (now (table .entry)) (now (files .entry)) (now (journal .entry))))
         × (r .count ≡ count + 1) ⌝ }
 {
     let after = run_command(
@@ -79,11 +77,10 @@ pub fn run_step(
     files: &mut [u8],
     journal: &mut [u8],
 ) -> Step
-    requires { ⌜ Ready (lent (now table) (now files) (now journal)) (before .session) c (length (now «data»)) × (before .count < 65535) × (kept ≤ 1000) × (length (now made) ≡ 255) × (length (now waiting) ≡ 255) ⌝ }
+    requires { ⌜ spec.MayRun (lent (now table) (now files) (now journal)) (before .session) c (length (now «data»)) (before .count) kept (now made) (now waiting) ⌝ }
     ensures { λ r. ⌜ stateOf r (now (waiting .exit)) (lent (now (table .exit)) (now (files .exit)) (now (journal .exit)))
         ≡ stepped (stateOf before (now (waiting .entry)) (lent (now (table .entry)) (now (files .entry)) (now (journal .entry))))
-        (carriedOut (limits.limited kept counts (before .session) (planned (situation format domain c (now («data» .entry)) (before .session) (lent (now (table .entry)) (now (files .entry)) (now (journal .entry))))))
-        (now (waiting .entry)) (lent (now (table .entry)) (now (files .entry)) (now (journal .entry)))) ⌝ }
+        (spec.commanded format domain c (now («data» .entry)) (before .session) kept counts (now (waiting .entry)) (lent (now (table .entry)) (now (files .entry)) (now (journal .entry)))) ⌝ }
 {
     let mut session = before.session;
     let ended = step(

@@ -10,13 +10,11 @@ use limit::limited;
 use plan::act::carry_out;
 use session::Session;
 ghost use mathlib.Core.Path.{_≡_};
-ghost use Prim.Native.Nat.{_+_, _≤_, _<_};
+ghost use Prim.Native.Nat.{_+_};
 ghost use lib.ListN.{length};
 ghost use Rattle.card.specs.Row.{lent};
-ghost use Rattle.command.specs.Commands.{situation, planned, carriedOut};
 ghost use Rattle.plan.specs.Decisions.{movedTo};
-ghost use Rattle.step.specs.Limits as limits;
-ghost use Rattle.decide.specs.Decisions.{Ready};
+ghost use Rattle.step.specs.Steps as spec;
 
 // One command on a card, with its data, in a session and after `count` others, where so many bytes of R-APDUs are kept and this one
 // counts or not: the script's step after it. What it makes stands in lent bytes until it is done.
@@ -35,10 +33,9 @@ pub fn run_command(
     files: &mut [u8],
     journal: &mut [u8],
 ) -> Step
-    requires { ⌜ Ready (lent (now table) (now files) (now journal)) s c (length (now «data»)) × (count < 65535) × (kept ≤ 1000) × (length (now made) ≡ 255) × (length (now waiting) ≡ 255) ⌝ }
+    requires { ⌜ spec.MayRun (lent (now table) (now files) (now journal)) s c (length (now «data»)) count kept (now made) (now waiting) ⌝ }
     ensures { λ r. ⌜ (movedTo (r .session) (r .outcome) (now (waiting .exit)) (lent (now (table .exit)) (now (files .exit)) (now (journal .exit)))
-        ≡ carriedOut (limits.limited kept counts s (planned (situation format domain c (now («data» .entry)) s (lent (now (table .entry)) (now (files .entry)) (now (journal .entry))))))
-        (now (waiting .entry)) (lent (now (table .entry)) (now (files .entry)) (now (journal .entry))))
+        ≡ spec.commanded format domain c (now («data» .entry)) s kept counts (now (waiting .entry)) (lent (now (table .entry)) (now (files .entry)) (now (journal .entry))))
         × (r .count ≡ count + 1) ⌝ }
 {
     let d = decide(format, domain, c, data, s, table, files, journal, made);

@@ -15,12 +15,13 @@ use Rattle.command.specs.declared.Reading.{Reading}
 use Rattle.command.specs.declared.Step.{Step}
 use Rattle.command.specs.Commands.{State, stateOf, situation, planned, carriedOut, stepped}
 use Rattle.step.specs.Limits.{limited}
+use Rattle.step.specs.Steps.{commanded}
 use Rattle.compact.specs.Compact.{placeAfter, stepRead}
 use Rattle.compact.proofs.run.step_read.Statement.{statement}
 use Rattle.compact.proofs.run.step_read.Tie as tie
 
 told : (script : List ℕ) (domain : ℕ) (reading : Reading) (before : Step) (waiting : List ℕ) (card : Card) {«data» : List ℕ} {st : State} → «data» ≡ part script (reading .from) (reading .count)
-    → st ≡ stepped (stateOf before waiting card) (carriedOut (limited 0 false (before .session) (planned (situation Compact domain (reading .command) «data» (before .session) card))) waiting card)
+    → st ≡ stepped (stateOf before waiting card) (commanded Compact domain (reading .command) «data» (before .session) 0 false waiting card)
     → st ≡ stepRead script domain reading (stateOf before waiting card)
 unfolding stepRead limited pick
 told script domain reading before waiting card {«data»} {st} hd e =
