@@ -1,6 +1,6 @@
 -- Demand 3: a take-back after an accepted run gives back the card from before it; and with the laws of refused calls, every history of scripts that are bytes. Assumes nothing.
 use Prim.Native.Nat.{ℕ, _<_}
-use mathlib.Core.Path.{_≡_, refl, sym, ap, _∙_}
+use mathlib.Core.Path.{_≡_, sym, ap, _∙_}
 use mathlib.Core.List.{List, []}
 use native.Mathlib.Omega.{arith}
 use Rattle.octets.specs.Bytes.{byte}

@@ -7,7 +7,7 @@ use mathlib.Core.List.{List, []}
 use native.Mathlib.Omega.{arith}
 use lib.Dec.{ltb, eqb}
 use lib.ListN.{length}
-use borrow.Author.Tests.{eqb-true, eq-eqb, ne-eqb}
+use borrow.Author.Tests.{eqb-true}
 use Rattle.octets.specs.Choice.{pick}
 use Rattle.octets.proofs.Picks.{on-test}
 use Rattle.card.specs.Row.{Card}
@@ -17,27 +17,19 @@ use Rattle.command.specs.declared.Format.{Format}
 use Rattle.command.specs.declared.Format.the-variants.{Compact, Expanded}
 use Rattle.engine.specs.Numbers.{Arguments, formatOf, argumentsFit, scriptFits, leastResponse, markFits, templateFits, firstGiven, notSound, runRefusals, takeBackRefusals, confirmRefusals}
 use Rattle.engine.specs.Calls.{Result, gives, numbered, accepted, unlessRefused, runScript, run, takeBack, confirm}
+use Rattle.engine.proofs.Answers.{given-nothing, given-done}
 use Rattle.engine.proofs.Accepted.{firstOf}
 use Rattle.demands.specs.Given.{Call, running, takingBack, confirming, given, number, lentResponse}
 use Rattle.demands.specs.Demand2.{withMark}
 
 -- a call that is done where no number is given
-module _ (n : ℕ) (c : Card) (response : List ℕ) (r : Result) where
-  given-nothing : (n ≡ 0 → ⊥) → unlessRefused n c response r ≡ gives (numbered n) c response
+module _ (n : ℕ) (c : Card) (response : List ℕ) (r : Result) (done : number r ≡ 0) where
+  given-number : number (unlessRefused n c response r) ≡ n
   unfolding unlessRefused
-  given-nothing z = rw (ne-eqb n 0 z, unlessRefused)
+  given-number = on-test (λ (s : Result). number s ≡ n) (eqb n 0) _ _ (λ e. done ∙ sym (eqb-true n 0 e)) (λ _. refl)
 
-  given-done : n ≡ 0 → unlessRefused n c response r ≡ r
-  unfolding unlessRefused
-  given-done z = rw (eq-eqb n 0 z, unlessRefused)
-
-  module _ (done : number r ≡ 0) where
-    given-number : number (unlessRefused n c response r) ≡ n
-    unfolding unlessRefused
-    given-number = on-test (λ (s : Result). number s ≡ n) (eqb n 0) _ _ (λ e. done ∙ sym (eqb-true n 0 e)) (λ _. refl)
-
-    given-alone : (number (unlessRefused n c response r) ≡ 0 → ⊥) → unlessRefused n c response r ≡ gives (numbered (number (unlessRefused n c response r))) c response
-    given-alone z = given-nothing (λ e. z (given-number ∙ e)) ∙ ap (λ (k : ℕ). gives (numbered k) c response) (sym given-number)
+  given-alone : (number (unlessRefused n c response r) ≡ 0 → ⊥) → unlessRefused n c response r ≡ gives (numbered (number (unlessRefused n c response r))) c response
+  given-alone z = given-nothing n c response r (λ e. z (given-number ∙ e)) ∙ ap (λ (k : ℕ). gives (numbered k) c response) (sym given-number)
 
 script-done : (f : Format) (a : Arguments) (c : Card) → number (runScript f a c) ≡ 0
 unfolding runScript accepted

@@ -22,6 +22,7 @@ use Rattle.command.specs.declared.Format.the-variants.{Compact, Expanded}
 use Rattle.engine.specs.Numbers.{Arguments, formatOf, argumentsFit, scriptFits, leastResponse, markFits, templateFits, firstGiven, notSound, runRefusals}
 use Rattle.engine.specs.Calls.{gives, numbered, unlessRefused, runScript, run}
 use Rattle.engine.proofs.Refusals.{arguments-root, least-response}
+use Rattle.engine.proofs.Answers.{given-nothing, given-done}
 
 -- the first of a run's numbers, by what they test
 abbrev pub firstOf : Bool → Bool → Bool → Bool → Bool → Bool → ℕ
@@ -98,8 +99,8 @@ module _ (c : Card) (a : Arguments) (none : firstGiven (runRefusals c a) ≡ 0) 
     script-starts = (rw is marked-starts, script-short, response-long)
 
     pub accepted-run : runScript (formatOf (a .format)) a (lent (c .table) (c .files) j) ≡ run a c
-    unfolding run unlessRefused withJournal
-    accepted-run = ap (λ k. runScript (formatOf (a .format)) a (lent (c .table) (c .files) k)) is ∙ sym (rw none)
+    unfolding run withJournal
+    accepted-run = ap (λ k. runScript (formatOf (a .format)) a (lent (c .table) (c .files) k)) is ∙ sym (given-done _ c (a .response) _ none)
 
 -- the mark is pushed behind the used bytes, and counted
 pub is-marked : (j : List ℕ) {after : List ℕ} {u : ℕ} → u ≡ usedBytes j → after ≡ pushedAt j u (byte j 2 + 1) mark → after ≡ marked j
@@ -108,11 +109,10 @@ is-marked j used pushes = pushes ∙ (λ i. pushedAt j (used i) (byte j 2 + 1) m
 
 -- a number that is not 0 refuses the run
 pub refused-run : (c : Card) (a : Arguments) (n : ℕ) → n ≡ firstGiven (runRefusals c a) → (n ≡ 0 → ⊥) → gives (numbered n) c (a .response) ≡ run a c
-unfolding run unlessRefused
+unfolding run
 refused-run c a n e z =
     let r = runScript (formatOf (a .format)) a (withJournal c (marked (c .journal))) in
-    let k : gives (numbered n) c (a .response) ≡ unlessRefused n c (a .response) r = rw (unlessRefused, ne-eqb n 0 z) in
-    k ∙ ap (λ (m : ℕ). unlessRefused m c (a .response) r) e
+    sym (given-nothing n c (a .response) r z) ∙ ap (λ (m : ℕ). unlessRefused m c (a .response) r) e
 
 -- a script of either format looks at its own arguments alone
 module _ (a : Arguments) {domain : ℕ} (same : domain ≡ a .domain) where

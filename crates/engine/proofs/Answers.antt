@@ -1,4 +1,4 @@
--- What the two calls without a script give, case by case, and what a number alone answers. Assumes nothing.
+-- What a call gives where a number is given and where none is, what the two calls without a script give, case by case, and what a number alone answers. Assumes nothing.
 use Prim.Native.Nat.{ℕ, _<_}
 use mathlib.Core.Path.{_≡_, sym, ap, subst, _∙_}
 use mathlib.Core.Bool.{true, false}
@@ -14,6 +14,17 @@ use Rattle.engine.specs.declared.Answer.{Answer}
 use Rattle.engine.specs.Numbers.{firstGiven, notSound, takeBackRefusals, confirmRefusals}
 use Rattle.engine.specs.Calls.{Result, gives, numbered, Small, unlessRefused, takeBack, confirm}
 
+-- a call gives its number alone where one is given, and else what it does
+module _ (n : ℕ) (c : Card) (response : List ℕ) (r : Result) where
+  pub given-nothing : (n ≡ 0 → ⊥) → unlessRefused n c response r ≡ gives (numbered n) c response
+  unfolding unlessRefused
+  given-nothing z = rw (ne-eqb n 0 z, unlessRefused)
+
+  pub given-done : n ≡ 0 → unlessRefused n c response r ≡ r
+  unfolding unlessRefused
+  given-done z = rw (eq-eqb n 0 z, unlessRefused)
+
+-- the calls without a script
 module _ (c : Card) where
   pub back-unsound : soundCard c ≡ false → takeBack c ≡ gives (numbered 1) c []
   unfolding takeBack unlessRefused firstGiven takeBackRefusals notSound pick
