@@ -1,6 +1,6 @@
 -- What holds of each way in which a command ends holds of its plan: by the first check that fails, and by its instruction. Assumes nothing.
 use mathlib.Core.Path.{_≡_, refl}
-use mathlib.Core.Bool.{Bool, true, false, _||_}
+use mathlib.Core.Bool.{true, or-false}
 use mathlib.Core.Option.{Option, none, some}
 use Prim.Native.Nat.{ℕ}
 use lib.Dec.{eqb}
@@ -13,10 +13,6 @@ use Rattle.command.specs.Plans.{Situation, select, readBinary, updateBin
 use Rattle.card.specs.Row.{activated, deactivated}
 use Rattle.command.specs.Checks.{Check, order, firstFailing}
 use Rattle.command.specs.Commands.{decided, planned}
-
-or-false : (b : Bool) → (b || false) ≡ true → b ≡ true
-or-false true h = refl
-or-false false h = h
 
 module _ (P : Plan → Type 0) (w : Situation) where
   -- a check fails, or none
@@ -52,4 +48,4 @@ module _ (P : Plan → Type 0) (w : Situation) where
       (λ f′. on-pick P (eqb i ins.increase) _ _ (λ y. g (eqb-true i _ y))
       (λ g′. on-pick P (eqb i ins.deactivate) _ _ (λ y. h (eqb-true i _ y))
       (λ h′. on-pick P (eqb i ins.activate) _ _ (λ y. j (eqb-true i _ y))
-      (λ j′. k (λ known. eqb-true i _ (or-false _ (rw (a′, b′, c′, d′, e′, f′, g′, h′, j′) at known))))))))))))
+      (λ j′. k (λ known. eqb-true i _ (rw (a′, b′, c′, d′, e′, f′, g′, h′, j′, or-false) at known)))))))))))

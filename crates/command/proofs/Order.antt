@@ -8,7 +8,7 @@ use Prim.Native.Nat.{ℕ}
 use lib.Dec.{eqb}
 use borrow.Author.Tests.{eqb-true}
 use Rattle.octets.specs.Choice.{pick}
-use Rattle.octets.proofs.Picks.{pick-true, pick-false, picks, either}
+use Rattle.octets.proofs.Picks.{pick-true, pick-false, picks, or-either}
 use Rattle.card.specs.declared.Row.{Row}
 use Rattle.card.specs.Row.{hasRecords}
 use Rattle.command.specs.Instructions as ins
@@ -59,7 +59,7 @@ later-file i a b = rw (a, b)
 
 -- a test that a number is one of several
 one-of : {P : Type 0} (i a : ℕ) (b : Bool) → (eqb i a || b) ≡ true → (i ≡ a → P) → (b ≡ true → P) → P
-one-of i a b h f g = ⊎-elim (λ e. f (eqb-true i a e)) (λ e. g (rw e at h)) (either (eqb i a))
+one-of i a b h f g = ⊎-elim (λ e. f (eqb-true i a e)) g (or-either (eqb i a) b h)
 
 -- B2, DC and A2 have passed a file with records
 pub record-kind : (i : ℕ) (r : Row) → isRecord i ≡ true → kindFits i r ≡ true → hasRecords r ≡ true

@@ -23,61 +23,43 @@ above t e r small h x other = rw x (small e h (rw (← x) other))
 abbrev μ-root-of : Measures 1 root-of-kinds.ps ℕ
 μ-root-of κs a = a .1 .0
 
-abbrev root-of-at : ℕ → In 1 root-of-kinds.ps
-root-of-at t = and 1 root-of-kinds.ps (is 1 root-of-kinds.ps μ-root-of t) root-of.Pre
+module _ (t : ℕ) where
+  abbrev at : In 1 root-of-kinds.ps
+  at = and 1 root-of-kinds.ps (is 1 root-of-kinds.ps μ-root-of t) root-of.Pre
 
-abbrev root-of-below : ℕ → In 1 root-of-kinds.ps
-root-of-below t = and 1 root-of-kinds.ps (falls 1 root-of-kinds.ps _<_ μ-root-of t) root-of.Pre
+  abbrev below : In 1 root-of-kinds.ps
+  below = and 1 root-of-kinds.ps (falls 1 root-of-kinds.ps _<_ μ-root-of t) root-of.Pre
 
-root-of-row-at-requires : (t : ℕ) → root-of-lts.Need-row-at-requires (
-  row-at-reads.Asked,
-  row-at-reads.Learnt,
-  root-of-below t,
-  root-of.Post,
-) (root-of-at t) root-of.Post
-root-of-row-at-requires t c κs = omega arith
+  -- what is known of the functions that are called
+  abbrev claims : root-of-lts.Claims
+  claims = (row-at-reads.Asked, row-at-reads.Learnt, below, root-of.Post)
 
-root-of-returns : (t : ℕ) → root-of-lts.Need-returns (
-  row-at-reads.Asked,
-  row-at-reads.Learnt,
-  root-of-below t,
-  root-of.Post,
-) (root-of-at t) root-of.Post
-root-of-returns t c = (omega arith, λ n h. root-here n (c .before .before .before .before .before .args .table .now) (c .before .before .before .before .before .args .e) (rw (c .before .before .before .row-at .ensures .0) at (c .if1 .taken)))
+  row-at-requires : root-of-lts.Need-row-at-requires claims at root-of.Post
+  row-at-requires c κs = omega arith
 
-root-of-root-of-requires : (t : ℕ) → root-of-lts.Need-root-of-requires (
-  row-at-reads.Asked,
-  row-at-reads.Learnt,
-  root-of-below t,
-  root-of.Post,
-) (root-of-at t) root-of.Post
-root-of-root-of-requires t c κs =
-    let s = c .before .before .before .before .before in
-    let h : c .before .before .before .row-at .result .parent < s .args .e = above _ _ _ (s .pre .1 .1) (s .pre .1 .0) (c .before .before .before .row-at .ensures .0) (c .if1 .left) in
-    (omega arith, (omega arith, s .pre .1 .1))
+  returns : root-of-lts.Need-returns claims at root-of.Post
+  returns c =
+      let s = c .before .before .before .before .before in
+      (omega arith, λ n h. root-here n (s .args .table .now) (s .args .e) (rw (c .before .before .before .row-at .ensures .0) at (c .if1 .taken)))
 
-root-of-returns-2 : (t : ℕ) → root-of-lts.Need-returns-2 (
-  row-at-reads.Asked,
-  row-at-reads.Learnt,
-  root-of-below t,
-  root-of.Post,
-) (root-of-at t) root-of.Post
-root-of-returns-2 t c =
-    let s = c .before .before .before .before .before .before in
-    let r = c .before .before .before .before .row-at in
-    let h : r .result .parent < s .args .e = above _ _ _ (s .pre .1 .1) (s .pre .1 .0) (r .ensures .0) (c .before .if1 .left) in
-    (omega arith, λ n l. root-above n (s .args .table .now) (s .args .e) _ (rw (r .ensures .0) at (c .before .if1 .left)) (rw (r .ensures .0) at h) l (rw (r .ensures .0) at (c .root-of .ensures .1)))
+  root-of-requires : root-of-lts.Need-root-of-requires claims at root-of.Post
+  root-of-requires c κs =
+      let s = c .before .before .before .before .before in
+      let h : c .before .before .before .row-at .result .parent < s .args .e = above _ _ _ (s .pre .1 .1) (s .pre .1 .0) (c .before .before .before .row-at .ensures .0) (c .if1 .left) in
+      (omega arith, (omega arith, s .pre .1 .1))
+
+  returns-2 : root-of-lts.Need-returns-2 claims at root-of.Post
+  returns-2 c =
+      let s = c .before .before .before .before .before .before in
+      let r = c .before .before .before .before .row-at in
+      let h : r .result .parent < s .args .e = above _ _ _ (s .pre .1 .1) (s .pre .1 .0) (r .ensures .0) (c .before .if1 .left) in
+      (omega arith, λ n l. root-above n (s .args .table .now) (s .args .e) _ (rw (r .ensures .0) at (c .before .if1 .left)) (rw (r .ensures .0) at h) l (rw (r .ensures .0) at (c .root-of .ensures .1)))
 
 pub +root-of-spec : {M : Type 1} → statement M
-+root-of-spec = close μ-root-of λ t. root-of-lts.spec (
-  row-at-reads.Asked,
-  row-at-reads.Learnt,
-  root-of-below t,
-  root-of.Post,
-)
-    (root-of-at t)
-    root-of.Post
-    (root-of-row-at-requires t)
-    (root-of-returns t)
-    (root-of-root-of-requires t)
-    (root-of-returns-2 t)
++root-of-spec =
+    close μ-root-of λ t.
+    root-of-lts.spec (claims t) (at t) root-of.Post
+    (row-at-requires t)
+    (returns t)
+    (root-of-requires t)
+    (returns-2 t)
