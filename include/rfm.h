@@ -10,7 +10,7 @@
  *
  * They, the script and the response memory are lent for the call only: nothing
  * is kept when it returns, and nothing else of the caller's is read or written.
- * They must not overlap.
+ * They must not overlap, and none is NULL, not even with length 0.
  *
  * An entry of the table, numbers of two bytes big-endian:
  *
