@@ -134,26 +134,22 @@ module _ (t : List ℕ) (e k v : ℕ) (here : e < entries t) (low : 9 ≤ k) (hi
   row-here : rowOf (changed t e k v) e ≡ withBytes (rowOf t e) (rowOf (changed t e k v) e .newest) (rowOf (changed t e k v) e .state)
   unfolding rowOf row
   row-here =
+      let same = same-byte t e k v here (omega arith) in
+      let num = same-num t e k v here (omega arith) in
       λ i. record {
-        identifier = num 0 (omega arith) (omega arith) i;
+        identifier = num 0 (omega arith) (omega arith) (omega arith) i;
         parent = same 2 (omega arith) (omega arith) i;
         kind = same 3 (omega arith) (omega arith) i;
-        start = num 4 (omega arith) (omega arith) i;
-        size = num 6 (omega arith) (omega arith) i;
+        start = num 4 (omega arith) (omega arith) (omega arith) i;
+        size = num 6 (omega arith) (omega arith) (omega arith) i;
         «record» = same 8 (omega arith) (omega arith) i;
         newest = byte (entry (changed t e k v) e) 9;
         state = byte (entry (changed t e k v) e) 10;
         eleven = same 11 (omega arith) (omega arith) i;
         never = same 12 (omega arith) (omega arith) i;
-        thirteen = num 13 (omega arith) (omega arith) i;
+        thirteen = num 13 (omega arith) (omega arith) (omega arith) i;
         fifteen = same 15 (omega arith) (omega arith) i;
       }
-    where
-      same : (i : ℕ) → i < 16 → (i ≡ k → ⊥) → byte (entry (changed t e k v) e) i ≡ byte (entry t e) i
-      same = same-byte t e k v here (omega arith)
-
-      num : (i : ℕ) → i + 2 ≤ 16 → (i ≡ k → ⊥) × (i + 1 ≡ k → ⊥) → numAt (entry (changed t e k v) e) i ≡ numAt (entry t e) i
-      num i h z = same-num t e k v here (omega arith) i h (z .0) (z .1)
 
   row-alike : (d : ℕ) → rowOf (changed t e k v) d ≡ withBytes (rowOf t d) (rowOf (changed t e k v) d .newest) (rowOf (changed t e k v) d .state)
   row-alike d =

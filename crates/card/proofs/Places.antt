@@ -2,7 +2,7 @@
 use mathlib.Core.Path.{_≡_, ap, _∙_}
 use mathlib.Core.Logic.{_⊎_, inl, inr, ⊎-elim}
 use Prim.Native.Nat.{ℕ, _+_, _-_, _*_, _%_, _≤_, _<_}
-use native.Mathlib.Nat.{mul-comm, mul-suc, mul-le-mul-left, le-trans, mod-lt, mod-eq-of-lt, mod-eq-sub-mod, mod-add-mod, add-mod-right, add-sub-cancel}
+use native.Mathlib.Nat.{mul-comm, mul-suc, mul-le-mul-left, le-trans, mod-lt, mod-eq-of-lt, mod-eq-sub-mod, mod-add-mod, add-mod-right, add-sub-cancel, div-mul-le-self}
 use native.Mathlib.Decide.{decLe, decLt}
 use native.Mathlib.Omega.{arith}
 use Rattle.card.specs.declared.Row.{Row}
@@ -72,6 +72,14 @@ ends-inside size p m total h fits = le-trans (ends-before size p m h) (rw mul-co
 
 pub places-apart : (size p q : ℕ) → (p ≡ q → ⊥) → (size * p + size ≤ size * q) ⊎ (size * q + size ≤ size * p)
 places-apart size p q z = elim (decLt p q) [ yes l ↦ inl (ends-before size p q l) | no n ↦ inr (ends-before size q p (omega arith)) ]
+
+-- a place among the records lies inside the file, and so does every record
+pub place-inside : (f : Row) (p : ℕ) → p < recordCount f → f .«record» * p + f .«record» ≤ f .size
+place-inside f p l = ends-inside (f .«record») p (recordCount f) (f .size) l (div-mul-le-self (f .size) (f .«record»))
+
+pub offset-inside : (f : Row) → 1 ≤ recordCount f → (r : ℕ) → recordOffset f r + f .«record» ≤ f .size
+unfolding recordOffset recordPlace
+offset-inside f h r = place-inside f _ (place-below (recordCount f) (f .newest) r h)
 
 -- records of different numbers do not overlap
 pub records-apart : (f : Row) (r s : ℕ) → f .newest < recordCount f → 1 ≤ r → r ≤ recordCount f → 1 ≤ s → s ≤ recordCount f → (r ≡ s → ⊥) → (recordOffset f r + f .«record» ≤ recordOffset f s) ⊎ (recordOffset f s + f .«record» ≤ recordOffset f r)

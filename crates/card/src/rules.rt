@@ -6,7 +6,6 @@ use crate::DEACTIVATED;
 use crate::Row;
 use crate::TRANSPARENT;
 ghost use mathlib.Core.Path.{_≡_};
-ghost use Prim.Native.Nat.{_<_};
 ghost use Rattle.card.specs.Row.{Narrow, isDirectory, isFile, canBeChild};
 ghost use Rattle.card.specs.Sound.{rootSound, placeSound, nameSound, directorySound, newestSound, stateSound, recordsSound, fileSound, zerosSound, ownSound, namedApart, lieApart, pairSound};
 

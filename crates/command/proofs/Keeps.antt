@@ -2,13 +2,14 @@
 use mathlib.Core.Path.{_≡_, refl, _∙_}
 use mathlib.Core.Bool.{true}
 use mathlib.Core.List.{List}
-use Prim.Native.Nat.{ℕ, _+_, _≤_}
+use Prim.Native.Nat.{ℕ, _≤_, _<_}
 use native.Mathlib.Omega.{arith}
 use lib.ListN.{length}
 use Rattle.octets.specs.Bytes.{overwrite}
 use Rattle.octets.proofs.Writes.{write-length}
 use Rattle.card.specs.Row.{Card}
-use Rattle.journal.specs.Entries.{usedBytes, scriptsOnTrial, room}
+use Rattle.card.proofs.Promises.{few-entries}
+use Rattle.journal.specs.Entries.{scriptsOnTrial, HasRoom}
 use Rattle.journal.specs.Sound.{soundCard, Starts}
 use Rattle.journal.specs.Changes.{Write, perform, cost, takenBack}
 use Rattle.journal.proofs.Parts.{card-table, card-parts}
@@ -28,7 +29,7 @@ use Rattle.command.proofs.Planned.{planned-fit}
 use Rattle.command.proofs.Roomy.{planned-room}
 
 -- writes leave the scripts on trial
-pub perform-scripts : (ws : List Write) (c : Card) → AllFit ws c → Writable c → usedBytes (c .journal) + cost ws ≤ room (c .journal) → scriptsOnTrial (perform ws c .journal) ≡ scriptsOnTrial (c .journal)
+pub perform-scripts : (ws : List Write) (c : Card) → AllFit ws c → Writable c → HasRoom (c .journal) (cost ws) → scriptsOnTrial (perform ws c .journal) ≡ scriptsOnTrial (c .journal)
 perform-scripts = perform-same (λ (c : Card). scriptsOnTrial (c .journal)) write-scripts
 
 -- what holds between the commands of a script: a card before it is what a take-back gives
@@ -51,13 +52,17 @@ starts-holds card application starts =
       back = refl;
     }
 
+-- and the root's number is small
+pub starts-small : (card : Card) (application : ℕ) → Starts card application → application < 64
+starts-small card application starts = omega (arith, few-entries (card .table) (card .files) (card-table card (starts .sound)), starts .inside)
+
 module _ (before : Card) (s : Session) (waiting : List ℕ) (card : Card) (h : Holds before s waiting card) where
   abbrev pub Carries : Plan → Type 0
   Carries p =
       let m : Moved = carriedOut p waiting card in
       Holds before (m .session) (m .waiting) (m .card)
 
-  plan-holds : {c : Command} (p : Plan) → Fit card c p → usedBytes (card .journal) + cost (p .writes) ≤ room (card .journal) → Carries p
+  plan-holds : {c : Command} (p : Plan) → Fit card c p → HasRoom (card .journal) (cost (p .writes)) → Carries p
   unfolding carriedOut
   plan-holds p fit left =
       let ok = sound-writable card (h .sound) in
@@ -75,7 +80,7 @@ module _ (before : Card) (s : Session) (waiting : List ℕ) (card : Card) (h : H
   command-holds format domain c «data» brief =
       plan-holds (planned (situation format domain c «data» s card))
       (planned-fit format domain c «data» s card (card-table card (h .sound)) (h .good) brief)
-      (planned-room format domain c «data» s card (card-parts card (h .sound) .used))
+      (planned-room format domain c «data» s card (card-parts card (h .sound)))
 
   pub failed-holds : (word : ℕ) → Carries (failed s word)
   unfolding failed carriedOut perform overwrite

@@ -1,4 +1,5 @@
 pub mod Order
+pub mod Lent
 pub mod Outgoing
 pub mod Found
 pub mod Sums

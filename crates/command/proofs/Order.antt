@@ -1,5 +1,5 @@
 -- Choices by a test that is told, the first check of a list that fails, the checks behind the formal ones, and the kind of a file that record commands have passed. Assumes nothing.
-use mathlib.Core.Path.{_≡_, sym, ap, _∙_}
+use mathlib.Core.Path.{_≡_, refl, sym, ap, _∙_}
 use mathlib.Core.Bool.{Bool, true, false, _||_}
 use mathlib.Core.List.{List, [], _∷_}
 use mathlib.Core.Option.{some}
@@ -8,21 +8,13 @@ use Prim.Native.Nat.{ℕ}
 use lib.Dec.{eqb}
 use borrow.Author.Tests.{eqb-true}
 use Rattle.octets.specs.Choice.{pick}
-use Rattle.octets.proofs.Picks.{pick-true, pick-false, picks, or-either}
+use Rattle.octets.proofs.Picks.{pick-true, pick-false, yes, no, picks, or-either}
 use Rattle.card.specs.declared.Row.{Row}
 use Rattle.card.specs.Row.{hasRecords}
 use Rattle.command.specs.Instructions as ins
 use Rattle.command.specs.Instructions.{isRecord}
 use Rattle.command.specs.Plans.{Situation}
-use Rattle.command.specs.Checks.{Check, selectChecks, responseChecks, fileChecks, laterChecks, checkWord, holds, firstFailing, failWord, kindFits}
-
--- a choice by a test whose value is known
-module _ {A : Type 0} where
-  pub yes : (b : Bool) {r x : A} (y : A) → b ≡ true → r ≡ x → r ≡ pick b x y
-  yes b {x = x} y h e = e ∙ sym (pick-true b x y h)
-
-  pub no : (b : Bool) {r : A} (x : A) {y : A} → b ≡ false → r ≡ y → r ≡ pick b x y
-  no b x {y} h e = e ∙ sym (pick-false b x y h)
+use Rattle.command.specs.Checks.{Check, selectChecks, responseChecks, fileChecks, laterChecks, checkWord, holds, firstFailing, failWord, FirstWord, kindFits}
 
 -- what a call said of a test, and what came of it
 pub told : {v b t : Bool} → v ≡ b → v ≡ t → b ≡ t
@@ -30,19 +22,35 @@ told e f = sym e ∙ f
 
 pub ruleset choices = (picks, yes, no, told)
 
--- a check that holds is passed, and one that fails gives its word
+-- a check that holds is passed, and one that fails is the first
 module _ (w : Situation) (k : Check) (ks : List Check) where
-  pub passes : holds w k ≡ true → firstFailing w (k ∷ ks) ≡ firstFailing w ks
+  pub past : holds w k ≡ true → firstFailing w (k ∷ ks) ≡ firstFailing w ks
   unfolding firstFailing
-  passes h = pick-true (holds w k) (firstFailing w ks) (some k) h
+  past h = pick-true (holds w k) (firstFailing w ks) (some k) h
 
-  pub fails : (all : List Check) → firstFailing w all ≡ firstFailing w (k ∷ ks) → holds w k ≡ false → checkWord k ≡ failWord (firstFailing w all)
-  unfolding firstFailing failWord
-  fails all e h = sym (ap failWord (e ∙ pick-false (holds w k) (firstFailing w ks) (some k) h))
+  pub first : holds w k ≡ false → firstFailing w (k ∷ ks) ≡ some k
+  unfolding firstFailing
+  first h = pick-false (holds w k) (firstFailing w ks) (some k) h
 
-pub all-hold : (w : Situation) (all : List Check) → firstFailing w all ≡ firstFailing w [] → 0 ≡ failWord (firstFailing w all)
+-- in every situation of which so much is known, the first of all checks that fails is the first of those left
+pub record Left (Known : Situation → Type 0) (all ks : List Check) : Type 0 where
+  pub same : (w : Situation) → Known w → firstFailing w all ≡ firstFailing w ks
+
+pub all-left : (Known : Situation → Type 0) (all : List Check) → Left Known all all
+all-left Known all = record { same = λ w so. refl }
+
+-- what the next check finds passes it, or gives its word
+module _ {Known : Situation → Type 0} {all ks : List Check} {k : Check} {found : Bool} (left : Left Known all (k ∷ ks)) (finds : (w : Situation) → Known w → holds w k ≡ found) where
+  pub passes : found ≡ true → Left Known all ks
+  passes h = record { same = λ w so. left .same w so ∙ past w k ks (finds w so ∙ h) }
+
+  pub fails : found ≡ false → FirstWord all Known (checkWord k)
+  unfolding failWord
+  fails h w so = sym (ap failWord (left .same w so ∙ first w k ks (finds w so ∙ h)))
+
+pub all-hold : {Known : Situation → Type 0} {all : List Check} → Left Known all [] → FirstWord all Known 0
 unfolding firstFailing failWord
-all-hold w all e = sym (ap failWord e)
+all-hold left w so = sym (ap failWord (left .same w so))
 
 -- the checks behind the formal ones
 pub later-select : (i : ℕ) → i ≡ ins.select → laterChecks i ≡ selectChecks

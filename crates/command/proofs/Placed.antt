@@ -1,22 +1,19 @@
 -- The writes of a command on its file are of a sound form where they go: in the file, at a record, at the oldest place, and at the state; and its records lie in the file memory. Assumes nothing.
-use mathlib.Core.Path.{_≡_, sym, _∙_}
+use mathlib.Core.Path.{_≡_}
 use mathlib.Core.Bool.{true}
 use mathlib.Core.List.{List, [], _∷_}
-use Prim.Native.Nat.{ℕ, _+_, _-_, _*_, _/_, _%_, _≤_, _<_}
-use native.Mathlib.Nat.{div-mul-le-self}
+use Prim.Native.Nat.{ℕ, _+_, _*_, _/_, _%_, _≤_, _<_}
 use native.Mathlib.Omega.{arith}
 use lib.ListN.{length}
 use borrow.Author.Tests.{le-leb, lt-ltb}
 use Rattle.octets.specs.Choice.{pick}
-use Rattle.octets.specs.Bytes.{part}
 use Rattle.octets.proofs.Picks.{and-both}
-use Rattle.octets.proofs.Writes.{part-lent, part-part}
 use Rattle.card.specs.declared.Row.{Row}
 use Rattle.card.specs.Row.{Card, entries, rowOf, isFile, isCyclic, hasRecords, placeOfState}
 use Rattle.card.specs.Sound.{recordCount, newestSound, stateSound, ownSound, soundTable}
 use Rattle.card.specs.Records.{recordPlace, recordOffset, oldestPlace}
 use Rattle.card.proofs.Promises.{records-file, file-inside, record-some, record-short, records-some, entry-own}
-use Rattle.card.proofs.Places.{place-below, ends-inside}
+use Rattle.card.proofs.Places.{place-below, place-inside, offset-inside}
 use Rattle.journal.specs.Sound.{tableByteSound, tablePlaceSound, formSound}
 use Rattle.journal.specs.Changes.{tableMemory, kindFor}
 use Rattle.journal.proofs.Kept.{FormSound, AllForms}
@@ -25,18 +22,6 @@ use Rattle.command.specs.Files.{fileAt, writeIn, newRecord}
 newest-byte : (r : Row) (v : ℕ) → isCyclic r ≡ true → 1 ≤ r .«record» → v < recordCount r → tableByteSound r 9 v ≡ true
 unfolding tableByteSound newestSound pick
 newest-byte r v cyclic some below = rw (cyclic, le-leb 1 (r .«record») some) (lt-ltb v (recordCount r) below)
-
--- a part of a file, as it is lent from the file memory, is that part of the file's content
-pub lent-part : (files : List ℕ) (start size off n : ℕ) → off + n ≤ size → part files (start + off) (start + off + n - (start + off)) ≡ part (part files start size) off n
-lent-part files start size off n h = part-lent files (start + off) n ∙ sym (part-part files start size off n h)
-
--- a place among the records lies inside the file, and so does every record
-place-inside : (r : Row) (p : ℕ) → p < recordCount r → r .«record» * p + r .«record» ≤ r .size
-place-inside r p l = ends-inside (r .«record») p (recordCount r) (r .size) l (div-mul-le-self (r .size) (r .«record»))
-
-pub offset-inside : (r : Row) → 1 ≤ recordCount r → (k : ℕ) → recordOffset r k + r .«record» ≤ r .size
-unfolding recordOffset recordPlace
-offset-inside r h k = place-inside r _ (place-below (recordCount r) (r .newest) k h)
 
 module _ (card : Card) (sound : soundTable (card .table) (card .files) ≡ true) (e : ℕ) (here : e < entries (card .table)) where
   abbrev r : Row

@@ -3,7 +3,7 @@ use mathlib.Core.Path.{_≡_, refl, ap, _∙_}
 use mathlib.Core.List.{List, []}
 use mathlib.Core.Option.{none}
 use mathlib.Core.Logic.{⊎-elim}
-use Prim.Native.Nat.{ℕ, _+_, _≤_}
+use Prim.Native.Nat.{ℕ}
 use native.Mathlib.Omega.{arith}
 use lib.Dec.{eqb}
 use borrow.Author.Tests.{leb-true, eqb-true}
@@ -12,8 +12,9 @@ use Rattle.octets.specs.Choice.{pick}
 use Rattle.card.specs.declared.tree.Found.{Found}
 use Rattle.card.specs.declared.tree.Found.the-variants.{At, Nothing}
 use Rattle.card.specs.Row.{Card}
-use Rattle.journal.specs.Entries.{usedBytes, room}
+use Rattle.journal.specs.Entries.{HasRoom}
 use Rattle.journal.specs.Changes.{Write, cost}
+use Rattle.journal.proofs.Parts.{Parts, used-inside, room-left}
 use Rattle.session.specs.declared.Session.{Session}
 use Rattle.command.specs.declared.Format.{Format}
 use Rattle.command.specs.declared.Format.the-variants.{Compact, Expanded}
@@ -45,17 +46,17 @@ response-free : (i : ℕ) (w : Situation) → i ≡ ins.getResponse → doneBy i
 unfolding doneBy getResponse pick
 response-free i w e = ap (λ (k : ℕ). doneBy k w .writes) e
 
-module _ (format : Format) (domain : ℕ) (c : Command) («data» : List ℕ) (s : Session) (card : Card) (left : usedBytes (card .journal) ≤ room (card .journal)) where
+module _ (format : Format) (domain : ℕ) (c : Command) («data» : List ℕ) (s : Session) (card : Card) (parts : Parts (card .table) (card .files) (card .journal)) where
   abbrev Room : List Write → Type 0
-  Room ws = usedBytes (card .journal) + cost ws ≤ room (card .journal)
+  Room ws = HasRoom (card .journal) (cost ws)
 
   free : (ws : List Write) → ws ≡ [] → Room ws
   unfolding cost
-  free ws e = rw e (omega arith)
+  free ws e = rw e (omega (arith, used-inside (card .table) (card .files) (card .journal) parts))
 
   file-room : Passed (situation format domain c «data» s card) → Room (doneBy (c .instruction) (situation format domain c «data» s card) .writes)
   unfolding holds journalFits situation fileAt
-  file-room p = leb-true _ _ (p .journal)
+  file-room p = room-left (card .table) (card .files) (card .journal) _ parts (leb-true _ _ (p .journal))
 
   abbrev w : Situation
   w = situation format domain c «data» s card
@@ -68,6 +69,6 @@ module _ (format : Format) (domain : ℕ) (c : Command) («data» : List ℕ) (s
       (λ a. ⊎-elim (λ e. free _ (response-free i w (eqb-true i ins.getResponse e))) (λ b. file-room (passed w i a b h)) (either (eqb i ins.getResponse)))
       (either (eqb i ins.select))
 
-  pub planned-room : usedBytes (card .journal) + cost (planned w .writes) ≤ room (card .journal)
+  pub planned-room : Room (planned w .writes)
   unfolding situation failed
   planned-room = of-planned (λ (p : Plan). Room (p .writes)) w (λ word. free [] refl) done-room

@@ -1,5 +1,6 @@
 -- "Order for one command": the checks by name, in the paper's order, the word of each, and when each fails.
-use Prim.Native.Nat.{ℕ, _+_, _/_, _%_, _^_}
+use Prim.Native.Nat.{ℕ, _+_, _/_, _%_, _^_, _≤_, _<_}
+use mathlib.Core.Path.{_≡_}
 use mathlib.Core.Bool.{Bool, true, false, not, _&&_, _||_}
 use mathlib.Core.List.{List, [], _∷_, _++_}
 use mathlib.Core.Option.{Option, none, some}
@@ -218,3 +219,28 @@ firstFailing w (k ∷ ks) = pick (holds w k) (firstFailing w ks) (some k)
 unfoldable pub failWord : Option Check → ℕ
 failWord none = 0
 failWord (some k) = checkWord k
+
+-- a number is the word of the first check of a list that fails, or 0, in every situation of which so much is known
+abbrev pub FirstWord : List Check → (Situation → Type 0) → ℕ → Type 0
+FirstWord ks Known n = (w : Situation) → Known w → n ≡ failWord (firstFailing w ks)
+
+-- what may be known of a situation: the command and how many data bytes it has; the current file with its row, and the current record
+pub record OfCommand (c : Command) (lc : ℕ) (w : Situation) : Type 0 where
+  pub command : w .command ≡ c
+  pub count : length (w .«data») ≡ lc
+
+pub record OnFile (f n : ℕ) (r : Row) (w : Situation) : Type 0 where
+  pub file : w .session .file ≡ f
+  pub number : w .session .number ≡ n
+  pub row : w .file .row ≡ r
+
+-- a command's parameters and the number of its data bytes are bytes
+pub record OfBytes (c : Command) (lc : ℕ) : Type 0 where
+  pub p1 : c .p1 < 256
+  pub p2 : c .p2 < 256
+  pub p3 : c .p3 < 256
+  pub brief : lc < 256
+
+-- what the checks on a file go by: the command's instruction, that the file's records are not empty, and that the command's numbers are bytes
+abbrev pub Checkable : ℕ → Command → ℕ → Row → Type 0
+Checkable i c lc r = (c .instruction ≡ i) × (hasRecords r ≡ true → 1 ≤ r .«record») × OfBytes c lc

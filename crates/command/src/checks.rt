@@ -29,7 +29,6 @@ use card::Row;
 ghost use mathlib.Core.Path.{_≡_};
 ghost use mathlib.Core.Bool.{true};
 ghost use Prim.Native.Nat.{_≤_, _<_};
-ghost use lib.ListN.{length};
 ghost use Rattle.card.specs.Row.{hasRecords};
 ghost use Rattle.command.specs.Plans.{Situation};
 ghost use Rattle.command.specs.Checks as spec;
@@ -75,7 +74,7 @@ fn domain_fits(i: usize, domain: usize) -> bool
 // The word of the first formal check that fails for a command with its instruction, or 0.
 pub fn formal_word(i: usize, c: Command, lc: usize, domain: usize) -> usize
     requires { ⌜ c .instruction ≡ i ⌝ }
-    ensures { λ n. ⌜ ((w : Situation) → w .command ≡ c → length (w .«data») ≡ lc → w .domain ≡ domain → n ≡ spec.failWord (spec.firstFailing w spec.formalChecks)) ⌝ }
+    ensures { λ n. ⌜ spec.FirstWord spec.formalChecks (λ (w : Situation). spec.OfCommand c lc w × (w .domain ≡ domain)) n ⌝ }
 {
     if !c.whole {
         return 0x6700;
@@ -193,8 +192,8 @@ fn length_fits(i: usize, offset: usize, p3: usize, lc: usize, r: Row) -> bool
 // The word of the first check of a file command with its instruction that fails, up to the lengths, or 0. The file is the current one
 // with its row, and the record number is the current one.
 pub fn bound_word(i: usize, c: Command, lc: usize, file: usize, number: usize, r: Row) -> usize
-    requires { ⌜ (c .instruction ≡ i) × (hasRecords r ≡ true → 1 ≤ r .«record») × (c .p1 < 256) × (c .p2 < 256) × (lc < 65536) ⌝ }
-    ensures { λ n. ⌜ ((w : Situation) → w .command ≡ c → length (w .«data») ≡ lc → w .session .file ≡ file → w .session .number ≡ number → w .file .row ≡ r → n ≡ spec.failWord (spec.firstFailing w spec.boundChecks)) ⌝ }
+    requires { ⌜ spec.Checkable i c lc r ⌝ }
+    ensures { λ n. ⌜ spec.FirstWord spec.boundChecks (λ (w : Situation). spec.OfCommand c lc w × spec.OnFile file number r w) n ⌝ }
 {
     let offset = c.p1 * 256 + c.p2;
     if file < 1 {

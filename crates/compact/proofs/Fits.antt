@@ -3,7 +3,7 @@ use mathlib.Core.List.{List}
 use Prim.Native.Nat.{ℕ, _+_, _<_}
 use native.Mathlib.Omega.{arith}
 use lib.ListN.{length}
-use Rattle.octets.specs.Bytes.{byte}
+use Rattle.octets.specs.Bytes.{AllBytes}
 use Rattle.card.specs.Row.{Card}
 use Rattle.session.specs.Session.{start, startWaiting}
 use Rattle.command.specs.declared.Format.the-variants.{Compact}
@@ -16,7 +16,7 @@ use Rattle.compact.specs.Compact.{broken, wholeAt, readAt, stepRead, ste
 use Rattle.compact.proofs.Readings.{on-reading}
 use Rattle.compact.proofs.Runs.{on-run, brief, Kept, step-holds}
 
-module _ (script : List ℕ) (small : (i : ℕ) → byte script i < 256) where
+module _ (script : List ℕ) (small : AllBytes script) where
   p3-byte : (at : ℕ) → readAt script at .command .p3 < 256
   unfolding wholeAt broken
   p3-byte at = on-reading (λ (r : Reading). r .command .p3 < 256) script at (omega arith) (λ inside. small (at + 4))

@@ -6,7 +6,7 @@ use Prim.Native.Nat.{ℕ, zero, suc, _+_, _≤_, _<_}
 use native.Mathlib.Omega.{arith}
 use lib.ListN.{length}
 use borrow.Author.Tests.{lt-ltb, le-ltb}
-use Rattle.octets.specs.Bytes.{byte}
+use Rattle.octets.specs.Bytes.{AllBytes}
 use Rattle.card.specs.Row.{Card}
 use Rattle.journal.specs.Sound.{Starts}
 use Rattle.journal.specs.Changes.{takenBack}
@@ -77,7 +77,7 @@ module _ {script : List ℕ} {application domain : ℕ} {card₀ : Card} where
       pub stops : goesOn (wordOf (next .outcome)) ≡ false → stateOf next bytes after ≡ run script application domain card₀
       stops off = e ∙ sym (stop script domain at (stateOf step waiting card) more (g .fuel) (g .enough) (same-end off)) ∙ g .whole
 
-      pub goes : ((i : ℕ) → byte script i < 256) → ReadingFits script at reading → goesOn (wordOf (next .outcome)) ≡ true → Going script application domain card₀ bytes after next (reading .from + reading .count)
+      pub goes : AllBytes script → ReadingFits script at reading → goesOn (wordOf (next .outcome)) ≡ true → Going script application domain card₀ bytes after next (reading .from + reading .count)
       unfolding stepRead stepped placeAfter
       goes small fits going =
           let there = rw is at fits in

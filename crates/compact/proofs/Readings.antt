@@ -5,7 +5,7 @@ use Prim.Native.Nat.{ℕ, _+_, _≤_, _<_}
 use native.Mathlib.Omega.{arith}
 use lib.ListN.{length}
 use borrow.Author.Tests.{leb-true}
-use Rattle.octets.specs.Bytes.{byte}
+use Rattle.octets.specs.Bytes.{byte, AllBytes}
 use Rattle.octets.proofs.Picks.{le-yes, le-no, on-pick}
 use Rattle.command.specs.declared.Reading.{Reading}
 use Rattle.compact.specs.Compact.{dataBehind, broken, wholeAt, headedAt, readAt, placeAfter, ReadingFits}
@@ -22,10 +22,7 @@ module _ (script : List ℕ) (at : ℕ) {r : Reading} where
       (record {
         inside = omega arith;
         further = omega arith;
-        p1 = omega arith;
-        p2 = omega arith;
-        p3 = omega arith;
-        brief = omega arith;
+        bytes = record { p1 = omega arith; p2 = omega arith; p3 = omega arith; brief = omega arith };
       })
 
 -- a header that is there, with the data that its instruction and its P3 ask for
@@ -43,17 +40,14 @@ module _ (script : List ℕ) (at : ℕ) {i p3 count : ℕ} (ins : i ≡ byte scr
       le-yes (at + 5) (length script) (broken script) headed
       (le-yes _ _ _ (rw behind at h) (e ∙ (λ k. wholeAt script at (ins k) (behind k))))
 
-pub whole-fits : (script : List ℕ) (at i count : ℕ) {r : Reading} → r ≡ wholeAt script at i count → at + 5 + count ≤ length script → count < 256 → ((k : ℕ) → byte script k < 256) → ReadingFits script at r
+pub whole-fits : (script : List ℕ) (at i count : ℕ) {r : Reading} → r ≡ wholeAt script at i count → at + 5 + count ≤ length script → count < 256 → AllBytes script → ReadingFits script at r
 unfolding wholeAt placeAfter
 whole-fits script at i count e h few bytes =
     rw e
     (record {
       inside = h;
       further = omega arith;
-      p1 = bytes (at + 2);
-      p2 = bytes (at + 3);
-      p3 = bytes (at + 4);
-      brief = few;
+      bytes = record { p1 = bytes (at + 2); p2 = bytes (at + 3); p3 = bytes (at + 4); brief = few };
     })
 
 -- what holds of a command with too few bytes, and of a whole one where it has them, holds of the one at a place

@@ -1,11 +1,11 @@
 -- A compact script of bytes keeps its card sound, scripts on trial, its session good, 255 waiting bytes, and what a take-back gives. Assumes nothing.
 use mathlib.Core.List.{List}
-use Prim.Native.Nat.{ℕ, zero, suc, _+_, _≤_, _<_}
+use Prim.Native.Nat.{ℕ, zero, suc, _+_, _≤_}
 use native.Mathlib.Omega.{arith}
 use lib.Dec.{ltb}
 use lib.ListN.{length, length-take}
 use Rattle.octets.proofs.Picks.{on-pick, on-test}
-use Rattle.octets.specs.Bytes.{byte, part}
+use Rattle.octets.specs.Bytes.{byte, AllBytes, part}
 use Rattle.card.specs.Row.{Card}
 use Rattle.session.specs.Session.{start, startWaiting}
 use Rattle.command.specs.declared.Format.the-variants.{Compact}
@@ -32,7 +32,7 @@ on-run P script domain keeps (suc n) at st h =
 abbrev pub Kept : Card → State → Type 0
 Kept before st = Holds before (st .step .session) (st .waiting) (st .card)
 
-module _ (script : List ℕ) (small : (i : ℕ) → byte script i < 256) where
+module _ (script : List ℕ) (small : AllBytes script) where
   few : (at : ℕ) → readAt script at .count ≤ 255
   unfolding wholeAt broken dataBehind
   few at =

@@ -13,6 +13,7 @@ use Rattle.command.specs.declared.Reading.{Reading}
 use Rattle.command.specs.declared.Step.{Step}
 use Rattle.command.specs.Instructions.{carriesData, caseOf}
 use Rattle.command.specs.Outcomes.{wordOf, dataOf, goesOn}
+use Rattle.command.specs.Checks.{OfBytes}
 use Rattle.command.specs.Commands.{State, started, planned, situation, carriedOut, stepped}
 
 -- "Five-byte headers"
@@ -84,10 +85,7 @@ placeAfter r = r .from + r .count
 pub record ReadingFits (script : List ℕ) (at : ℕ) (r : Reading) : Type 0 where
   pub inside : placeAfter r ≤ length script
   pub further : at < placeAfter r
-  pub p1 : r .command .p1 < 256
-  pub p2 : r .command .p2 < 256
-  pub p3 : r .command .p3 < 256
-  pub brief : r .count < 256
+  pub bytes : OfBytes (r .command) (r .count)
 
 -- a script's state after a command with its data: from the session and on the card that the ones before have left
 abbrev pub stepWith : ℕ → Command → List ℕ → State → State

@@ -7,14 +7,13 @@ use command::Step;
 use command::ends::goes_on;
 use command::ends::word_of;
 ghost use mathlib.Core.Path.{_≡_};
-ghost use mathlib.Core.Bool.{true};
-ghost use Prim.Native.Nat.{_≤_, _<_};
+ghost use Prim.Native.Nat.{_≤_};
 ghost use lib.ListN.{length};
 ghost use Rattle.card.specs.Row.{lent};
-ghost use Rattle.journal.specs.Sound.{soundCard, Starts};
+ghost use Rattle.journal.specs.Sound.{Starts};
 ghost use Rattle.session.specs.Session.{startWaiting};
-ghost use Rattle.session.specs.Good.{Good};
 ghost use Rattle.command.specs.Commands.{stateOf};
+ghost use Rattle.step.specs.Steps.{MayRun};
 ghost use Rattle.compact.specs.Compact as spec;
 
 // A script's step after a command that was read.
@@ -29,7 +28,7 @@ fn step_read(
     files: &mut [u8],
     journal: &mut [u8],
 ) -> Step
-    requires { ⌜ (spec.placeAfter reading ≤ length (now script)) × (reading .command .p1 < 256) × (reading .command .p2 < 256) × (reading .command .p3 < 256) × (reading .count < 256) × (soundCard (lent (now table) (now files) (now journal)) ≡ true) × Good (now table) (before .session) × (before .count < 65535) × (length (now made) ≡ 255) × (length (now waiting) ≡ 255) ⌝ }
+    requires { ⌜ (spec.placeAfter reading ≤ length (now script)) × MayRun (lent (now table) (now files) (now journal)) (before .session) (reading .command) (reading .count) (before .count) 0 (now made) (now waiting) ⌝ }
     ensures { λ r. ⌜ stateOf r (now (waiting .exit)) (lent (now (table .exit)) (now (files .exit)) (now (journal .exit))) ≡ spec.stepRead (now (script .entry)) domain reading (stateOf before (now (waiting .entry)) (lent (now (table .entry)) (now (files .entry)) (now (journal .entry)))) ⌝ }
 {
     let from = reading.from;

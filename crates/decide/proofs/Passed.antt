@@ -16,8 +16,8 @@ use Rattle.card.specs.declared.Row.{Row}
 use Rattle.card.specs.Row.{Card, lent, Narrow, entrySize, entries, rowOf, isCyclic, hasRecords, activated, deactivated, placeOfNewest, placeOfState}
 use Rattle.card.specs.Sound.{recordCount, ownSound}
 use Rattle.card.proofs.Promises.{some-entries, few-entries, cyclic-records, file-inside, record-some, records-some, records-few, entry-own}
-use Rattle.journal.specs.Entries.{usedBytes, room}
-use Rattle.journal.proofs.Parts.{Parts, card-table, card-parts}
+use Rattle.journal.specs.Entries.{usedBytes, room, HasRoom}
+use Rattle.journal.proofs.Parts.{Parts, card-table, card-parts, used-inside, room-left}
 use Rattle.session.specs.declared.Session.{Session}
 use Rattle.command.specs.declared.Format.{Format}
 use Rattle.command.specs.declared.Format.the-variants.{Compact}
@@ -26,10 +26,10 @@ use Rattle.command.specs.Instructions as ins
 use Rattle.command.specs.Instructions.{isRecord}
 use Rattle.command.specs.Files.{File, Recorded, fileAt}
 use Rattle.command.specs.Plans.{Situation, offsetOf, namedBy, switch, doneBy}
-use Rattle.command.specs.Checks.{holds, formalChecks, boundChecks, firstFailing, failWord, kindFits, offsetFits, recordFits, lengthFits}
+use Rattle.command.specs.Checks.{holds, formalChecks, boundChecks, kindFits, offsetFits, recordFits, lengthFits, FirstWord, OfCommand, OnFile, Checkable}
 use Rattle.command.specs.Commands.{situation, planned}
 use Rattle.command.proofs.Order.{record-kind}
-use Rattle.command.proofs.Placed.{offset-inside}
+use Rattle.card.proofs.Places.{offset-inside}
 use Rattle.command.proofs.Passed.{AllHold, kind-increased, offset-read, length-binary, length-record, length-increased, named-there}
 use Rattle.plan.specs.declared.Change.the-variants.{TableByte}
 use Rattle.plan.specs.declared.Decision.{Decision}
@@ -78,11 +78,13 @@ module _ {files lc : ℕ} {c : Command} {s : Session} {r : Row} (p : Known files
 -- what a card that is ready has
 module _ {card : Card} {s : Session} {c : Command} {lc : ℕ} (ready : Ready card s c lc) where
   pub able : Able (card .table) (card .files) s c lc
-  able =
-      record { table = card-table card (ready .sound); good = ready .good; p1 = ready .p1; p2 = ready .p2; brief = ready .brief }
+  able = record { table = card-table card (ready .sound); good = ready .good; bytes = ready .bytes }
 
   pub journal-parts : Parts (card .table) (card .files) (card .journal)
   journal-parts = card-parts card (ready .sound)
+
+  pub journal-inside : HasRoom (card .journal) 0
+  journal-inside = omega (arith, used-inside (card .table) (card .files) (card .journal) journal-parts)
 
 -- what a sound table and a good session give
 module _ {t files : List ℕ} {s : Session} {c : Command} {lc : ℕ} (can : Able t files s c lc) where
@@ -109,13 +111,13 @@ module _ {t files : List ℕ} {s : Session} {c : Command} {lc : ℕ} (can : Able
     records-long has = record-some (length files) r own has
 
     -- what `checked` asks
-    pub to-check : {i : ℕ} → c .instruction ≡ i → (c .instruction ≡ i) × (hasRecords r ≡ true → 1 ≤ r .«record») × (c .p1 < 256) × (c .p2 < 256) × (lc < 65536)
-    to-check e = (e, records-long, can .p1, can .p2, let l = can .brief in omega arith)
+    pub to-check : {i : ℕ} → c .instruction ≡ i → Checkable i c lc r
+    to-check e = (e, records-long, can .bytes)
 
-    passed : Narrow r → (w : Situation) → w .command ≡ c → length (w .«data») ≡ lc → w .session ≡ s → w .file .row ≡ r → AllHold w boundChecks → Known (length files) c lc s r
+    passed : Narrow r → (w : Situation) → OfCommand c lc w → OnFile (s .file) (s .number) r w → AllHold w boundChecks → Known (length files) c lc s r
     unfolding boundChecks holds
-    passed narrow w k l g f h =
-        let some : 1 ≤ s .file = rw g at (leb-true 1 (w .session .file) (h .0)) in
+    passed narrow w of on h =
+        let some : 1 ≤ s .file = rw (on .file) at (leb-true 1 (w .session .file) (h .0)) in
         let inside = file-inside (length files) r own (rw same (can .good .file some .isFile)) in
         record {
           inside = inside;
@@ -128,10 +130,10 @@ module _ {t files : List ℕ} {s : Session} {c : Command} {lc : ℕ} (can : Able
                 most = omega arith;
                 inside = inside;
               };
-          kind = rw (k, f) at (h .1 .0);
-          offset = rw (k, f) at (h .1 .1 .1 .1 .1 .0);
-          «record» = rw (k, g, f) at (h .1 .1 .1 .1 .1 .1 .0);
-          length = rw (k, l, f) at (h .1 .1 .1 .1 .1 .1 .1 .0);
+          kind = rw (of .command, on .row) at (h .1 .0);
+          offset = rw (of .command, on .row) at (h .1 .1 .1 .1 .1 .0);
+          «record» = rw (of .command, on .number, on .row) at (h .1 .1 .1 .1 .1 .1 .0);
+          length = rw (of .command, of .count, on .row) at (h .1 .1 .1 .1 .1 .1 .1 .0);
         }
 
 -- an instruction that sets the current file's state
@@ -152,15 +154,24 @@ activates = record { done = λ w. refl; plain = refl; byte = omega arith }
 abbrev pub Read : List ℕ → Session → Row → Type 0
 Read t s r = (r ≡ rowOf t (s .file)) × Narrow r
 
+abbrev Seen : ℕ → Command → ℕ → Session → Row → Situation → Type 0
+Seen domain c lc s r w = OfCommand c lc w × (w .domain ≡ domain) × OnFile (s .file) (s .number) r w
+
 abbrev pub Told : ℕ → Command → ℕ → Session → Row → ℕ → Type 0
-Told domain c lc s r word = (w : Situation) → w .command ≡ c → length (w .«data») ≡ lc → w .domain ≡ domain → w .session ≡ s → w .file .row ≡ r → word ≡ failWord (firstFailing w (formalChecks ++ boundChecks))
+Told domain c lc s r word = FirstWord (formalChecks ++ boundChecks) (Seen domain c lc s r) word
+
+-- a command's own situation is one of these
+own-situation : (format : Format) (domain : ℕ) (c : Command) («data» : List ℕ) (s : Session) (t files journal : List ℕ) {r : Row} → Read t s r → Seen domain c (length «data») s r (situation format domain c «data» s (lent t files journal))
+unfolding situation fileAt
+own-situation format domain c «data» s t files journal row =
+    (record { command = refl; count = refl }, refl, record { file = refl; number = refl; row = sym (row .0) })
 
 -- what is known where the word is 0
 pub check-passed : {domain : ℕ} {c : Command} («data» : List ℕ) {s : Session} {t files : List ℕ} {r : Row} {word : ℕ} → Read t s r → Told domain c (length «data») s r word → word ≡ 0 → Able t files s c (length «data») → Known (length files) c (length «data») s r
-unfolding situation fileAt
 check-passed {domain} {c} «data» {s} {t} {files} row told zero can =
     let w = situation Compact domain c «data» s (lent t files []) in
-    passed can (row .0) (row .1) w refl refl refl (sym (row .0)) (bounds-hold w (sym zero ∙ told w refl refl refl refl (sym (row .0))))
+    let so = own-situation Compact domain c «data» s t files [] row in
+    passed can (row .0) (row .1) w (so .0) (so .2) (bounds-hold w (sym zero ∙ told w so))
 
 module _ {domain : ℕ} {c : Command} {«data» : List ℕ} {s : Session} {t files : List ℕ} {r : Row} {word : ℕ} (row : Read t s r) (told : Told domain c (length «data») s r word) where
   -- what comes of a check that fails
@@ -170,7 +181,7 @@ module _ {domain : ℕ} {c : Command} {«data» : List ℕ} {s : Session} {t fil
       record {
         same = λ journal.
             let w = situation format domain c «data» s (lent t files journal) in
-            f .0 «data» bytes ∙ check-fails w (told w refl refl refl refl (sym (row .0))) z;
+            f .0 «data» bytes ∙ check-fails w (told w (own-situation format domain c «data» s t files journal row)) z;
         fits = none-fits _ _ _ (f .1);
       }
 
@@ -184,7 +195,7 @@ module _ {domain : ℕ} {c : Command} {«data» : List ℕ} {s : Session} {t fil
               let w = situation format domain c «data» s (lent t files journal) in
               so journal
               ∙ (λ k. summed (sym e k) (w .file) «data» s (doneBy (sym e k) w))
-              ∙ roomless-done w (sym zero ∙ told w refl refl refl refl (sym (row .0)));
+              ∙ roomless-done w (sym zero ∙ told w (own-situation format domain c «data» s t files journal row));
           fits = h;
         }
 
@@ -208,5 +219,5 @@ room-decided format domain c «data» s t files journal bytes ready a b u l long
     record {
       same = told .0 «data» bytes refl long ∙ (λ i. roomed (u i) (l i) s (unroomed .same journal i)) ∙ known;
       fits = told .1 (length t) (length files) (unroomed .fits);
-      journal = roomed-inside _ _ _ _ known inside;
+      journal = room-left t files journal _ (journal-parts ready) (roomed-inside _ _ _ _ known inside);
     }

@@ -14,7 +14,7 @@ use Rattle.octets.specs.Choice.{pick}
 use Rattle.octets.proofs.Picks.{pick-true, pick-false, and-left, and-right, on-pick, either}
 use Rattle.card.specs.declared.tree.Found.the-variants as Found
 use Rattle.card.specs.Row.{Card, rowOf}
-use Rattle.journal.specs.Entries.{usedBytes, room}
+use Rattle.journal.specs.Entries.{HasRoom}
 use Rattle.journal.specs.Changes.{cost}
 use Rattle.session.specs.declared.Session.{Session}
 use Rattle.command.specs.Instructions as ins
@@ -24,7 +24,7 @@ use Rattle.command.specs.Files.{File}
 use Rattle.command.specs.Plans.{Situation, selectEntry, select, getResponse, doneBy}
 use Rattle.command.specs.Checks.{Check, holds, checkWord, firstFailing, failWord, wrongPathLength, notFound, nothingWaits, moreThanWaits, sumTooLong, journalFull, selectChecks, responseChecks, boundChecks, fileChecks, laterChecks, formalChecks, order, pathLengthFits, isFound, sumFits, journalFits}
 use Rattle.command.specs.Commands.{decided, planned}
-use Rattle.command.proofs.Order.{passes, fails, later-select, later-response, later-file}
+use Rattle.command.proofs.Order.{past, first, later-select, later-response, later-file}
 use Rattle.command.proofs.Passed.{AllHold}
 use Rattle.plan.specs.declared.Change.the-variants.{Nothing}
 use Rattle.plan.specs.declared.Decision.{Decision}
@@ -61,8 +61,8 @@ module _ (w : Situation) where
   first-before [] b z = absurd (z refl)
   first-before (k ∷ a) b z =
       ⊎-elim
-      (λ h. passes w k (a ++ b) h ∙ first-before a b (λ e. z (ap failWord (passes w k a h) ∙ e)) ∙ sym (passes w k a h))
-      (λ h. pick-false (holds w k) (firstFailing w (a ++ b)) (some k) h ∙ sym (pick-false (holds w k) (firstFailing w a) (some k) h))
+      (λ h. past w k (a ++ b) h ∙ first-before a b (λ e. z (ap failWord (past w k a h) ∙ e)) ∙ sym (past w k a h))
+      (λ h. first w k (a ++ b) h ∙ sym (first w k a h))
       (either (holds w k))
 
   decided-word : (o : Option Check) → (failWord o ≡ 0 → ⊥) → failed (w .session) (failWord o) ≡ decided w o
@@ -76,20 +76,20 @@ module _ (w : Situation) where
       ap (failed (w .session)) e ∙ decided-word (firstFailing w a) some ∙ ap (decided w) (sym (first-before a b some))
 
   word-none : (a : List Check) → worded a ≡ true → 0 ≡ failWord (firstFailing w a) → AllHold w a
-  unfolding worded
+  unfolding worded failWord
   word-none [] ok e = tt
   word-none (k ∷ a) ok e =
       ⊎-elim
-      (λ h. (h, word-none a (and-right (ltb 0 (checkWord k)) (worded a) ok) (e ∙ ap failWord (passes w k a h))))
+      (λ h. (h, word-none a (and-right (ltb 0 (checkWord k)) (worded a) ok) (e ∙ ap failWord (past w k a h))))
       (λ h.
       let n = ltb-true 0 (checkWord k) (and-left (ltb 0 (checkWord k)) (worded a) ok) in
-      let z = e ∙ sym (fails w k a (k ∷ a) refl h) in
+      let z = e ∙ ap failWord (first w k a h) in
       absurd (omega arith))
       (either (holds w k))
 
   pub first-behind : (a b : List Check) → AllHold w a → firstFailing w (a ++ b) ≡ firstFailing w b
   first-behind [] b h = refl
-  first-behind (k ∷ a) b h = passes w k (a ++ b) (h .0) ∙ first-behind a b (h .1)
+  first-behind (k ∷ a) b h = past w k (a ++ b) (h .0) ∙ first-behind a b (h .1)
 
   holds-behind : (a b : List Check) → AllHold w (a ++ b) → AllHold w b
   holds-behind [] b h = h
@@ -218,13 +218,13 @@ abbrev pub Fails : Session → ℕ → Decision → Type 0
 Fails s word d = ((«data» bytes : List ℕ) → planOf d «data» bytes ≡ failed s word) × (d .change ≡ Nothing)
 
 -- a decision that writes nothing, where the journal's used bytes are inside its room
-pub nothing-decided : (card : Card) («data» bytes : List ℕ) (plan : Plan) (d : Decision) → usedBytes (card .journal) ≤ room (card .journal) → planOf d «data» bytes ≡ plan → d .change ≡ Nothing → Decided card «data» bytes plan d
+pub nothing-decided : (card : Card) («data» bytes : List ℕ) (plan : Plan) (d : Decision) → HasRoom (card .journal) 0 → planOf d «data» bytes ≡ plan → d .change ≡ Nothing → Decided card «data» bytes plan d
 unfolding planOf writesOf cost
 nothing-decided card «data» bytes plan d h e n =
     record {
       same = e;
       fits = none-fits _ _ _ n;
-      journal = rw (← e, n) (omega arith);
+      journal = rw (← e, n) h;
     }
 
 pub roomed-inside : (used room : ℕ) (s : Session) (p : Plan) {plan : Plan} → roomed used room s p ≡ plan → used ≤ room → used + cost (plan .writes) ≤ room

@@ -1,5 +1,5 @@
 -- What deciding a command may go by, what it comes to without and with the journal's room, and what is decided.
-use Prim.Native.Nat.{ℕ, _+_, _≤_, _<_}
+use Prim.Native.Nat.{ℕ, _+_}
 use mathlib.Core.Bool.{true}
 use mathlib.Core.Path.{_≡_}
 use mathlib.Core.List.{List, [], _∷_, _++_}
@@ -8,7 +8,7 @@ use lib.Dec.{leb}
 use Rattle.octets.specs.Choice.{pick}
 use Rattle.card.specs.Row.{Card, lent}
 use Rattle.card.specs.Sound.{soundTable}
-use Rattle.journal.specs.Entries.{usedBytes, room}
+use Rattle.journal.specs.Entries.{HasRoom}
 use Rattle.journal.specs.Sound.{soundCard}
 use Rattle.journal.specs.Changes.{cost}
 use Rattle.session.specs.declared.Session.{Session}
@@ -17,7 +17,7 @@ use Rattle.command.specs.declared.Format.{Format}
 use Rattle.command.specs.declared.Command.{Command}
 use Rattle.command.specs.Outcomes.{Plan, failed}
 use Rattle.command.specs.Plans.{Situation, getResponse}
-use Rattle.command.specs.Checks.{nothingWaits, moreThanWaits, sumTooLong, journalFull, checkWord, formalChecks, boundChecks, laterChecks, firstFailing}
+use Rattle.command.specs.Checks.{nothingWaits, moreThanWaits, sumTooLong, journalFull, checkWord, formalChecks, boundChecks, laterChecks, firstFailing, OfBytes}
 use Rattle.command.specs.Commands.{situation, decided}
 use Rattle.plan.specs.declared.Decision.{Decision}
 use Rattle.plan.specs.Decisions.{planOf, Fits}
@@ -45,18 +45,13 @@ roomless w = decided w (firstFailing w (formalChecks ++ (boundChecks ++ (sumTooL
 pub record Able (t files : List ℕ) (s : Session) (c : Command) (lc : ℕ) : Type 0 where
   pub table : soundTable t files ≡ true
   pub good : Good t s
-  pub p1 : c .p1 < 256
-  pub p2 : c .p2 < 256
-  pub brief : lc < 256
+  pub bytes : OfBytes c lc
 
 -- what deciding a command may go by: the card is sound, the session good, and the command's numbers are bytes
 pub record Ready (card : Card) (s : Session) (c : Command) (lc : ℕ) : Type 0 where
   pub sound : soundCard card ≡ true
   pub good : Good (card .table) s
-  pub p1 : c .p1 < 256
-  pub p2 : c .p2 < 256
-  pub p3 : c .p3 < 256
-  pub brief : lc < 256
+  pub bytes : OfBytes c lc
 
 -- what is decided of a file command but for the journal's room, whatever the journal is: it lies inside the card
 pub record Unroomed (format : Format) (domain : ℕ) (c : Command) («data» : List ℕ) (s : Session) (t files bytes : List ℕ) (d : Decision) : Type 0 where
@@ -67,4 +62,4 @@ pub record Unroomed (format : Format) (domain : ℕ) (c : Command) («data» : L
 pub record Decided (card : Card) («data» bytes : List ℕ) (plan : Plan) (d : Decision) : Type 0 where
   pub same : planOf d «data» bytes ≡ plan
   pub fits : Fits (length (card .table)) (length (card .files)) (length «data») (d .change)
-  pub journal : usedBytes (card .journal) + cost (plan .writes) ≤ room (card .journal)
+  pub journal : HasRoom (card .journal) (cost (plan .writes))

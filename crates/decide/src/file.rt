@@ -18,11 +18,9 @@ use plan::does;
 use plan::failed;
 use session::Session;
 ghost use mathlib.Core.Path.{_≡_};
-ghost use mathlib.Core.Bool.{true};
 ghost use mathlib.Core.List.{List, _++_};
-ghost use Prim.Native.Nat.{ℕ, _≤_, _<_};
+ghost use Prim.Native.Nat.{ℕ};
 ghost use lib.ListN.{length};
-ghost use Rattle.card.specs.Row.{hasRecords};
 ghost use Rattle.command.specs.Instructions as ins;
 ghost use Rattle.command.specs.Plans.{Situation};
 ghost use Rattle.command.specs.Checks as checks-spec;
@@ -30,8 +28,8 @@ ghost use Rattle.decide.specs.Decisions.{Able, Unroomed};
 
 // The word of the first check of a file command that fails, up to the lengths, or 0.
 fn checked(i: usize, c: Command, lc: usize, domain: usize, s: Session, r: Row) -> usize
-    requires { ⌜ (c .instruction ≡ i) × (hasRecords r ≡ true → 1 ≤ r .«record») × (c .p1 < 256) × (c .p2 < 256) × (lc < 65536) ⌝ }
-    ensures { λ n. ⌜ ((w : Situation) → w .command ≡ c → length (w .«data») ≡ lc → w .domain ≡ domain → w .session ≡ s → w .file .row ≡ r → n ≡ checks-spec.failWord (checks-spec.firstFailing w (checks-spec.formalChecks ++ checks-spec.boundChecks))) ⌝ }
+    requires { ⌜ checks-spec.Checkable i c lc r ⌝ }
+    ensures { λ n. ⌜ checks-spec.FirstWord (checks-spec.formalChecks ++ checks-spec.boundChecks) (λ (w : Situation). checks-spec.OfCommand c lc w × (w .domain ≡ domain) × checks-spec.OnFile (s .file) (s .number) r w) n ⌝ }
 {
     let word = formal_word(i, c, lc, domain);
     if word != 0 {

@@ -6,15 +6,16 @@ use native.Mathlib.Omega.{arith}
 use lib.Dec.{ltb}
 use lib.ListN.{length}
 use borrow.Author.Tests.{ltb-true, le-ltb}
-use Rattle.octets.specs.Bytes.{byte, part}
-use Rattle.octets.proofs.Picks.{pick-false, on-pick}
+use Rattle.octets.specs.Bytes.{AllBytes, part}
+use Rattle.octets.proofs.Picks.{pick-false}
 use Rattle.tlv.specs.declared.template.Template.{Template}
 use Rattle.tlv.specs.declared.template.Template.the-variants.{Definite, Indefinite, Missing}
 use Rattle.tlv.specs.declared.template.Item.the-variants.{End}
 use Rattle.tlv.specs.Templates.{templateOf, TemplateFits, itemAt, ItemFits}
 use Rattle.tlv.proofs.Fits.{template-told, item-told}
 use Rattle.command.specs.declared.Reading.{Reading}
-use Rattle.compact.specs.Compact.{broken, wholeAt, headedAt, readAt, placeAfter}
+use Rattle.compact.specs.Compact.{broken, wholeAt, readAt, placeAfter}
+use Rattle.compact.proofs.Readings.{on-reading}
 use Rattle.demands.specs.Commands.{Read, readIn, commandsFrom, commandsOf, Piece, capdu, piecesFrom, piecesIn, piecesOf}
 use Rattle.demands.proofs.Commands.{by-test, by-item}
 
@@ -23,11 +24,8 @@ use Rattle.demands.proofs.Commands.{by-test, by-item}
 module _ (script : List ℕ) where
   -- a command takes a byte or more
   further : (at : ℕ) → at < length script → at < placeAfter (readAt script at)
-  unfolding readAt headedAt wholeAt broken placeAfter
-  further at h =
-      on-pick (λ (r : Reading). at < r .from + r .count) _ _ _
-      (λ _. on-pick (λ (r : Reading). at < r .from + r .count) _ _ _ (λ _. omega arith) (λ _. omega arith))
-      (λ _. omega arith)
+  unfolding wholeAt broken placeAfter
+  further at h = on-reading (λ (r : Reading). at < r .from + r .count) script at (omega arith) (λ _. omega arith)
 
   none-left : (n at : ℕ) → length script ≤ at → commandsFrom n script at ≡ []
   unfolding commandsFrom
@@ -52,7 +50,7 @@ all-commands script n h = enough script n (length script) 0 (omega arith) (omega
 
 -- ---- expanded
 
-module _ (script : List ℕ) (small : (i : ℕ) → byte script i < 256) where
+module _ (script : List ℕ) (small : AllBytes script) where
   module _ (end : ℕ) where
     no-item : (at : ℕ) → end ≤ at → itemAt script at end ≡ End
     unfolding itemAt

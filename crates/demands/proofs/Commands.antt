@@ -6,7 +6,7 @@ use mathlib.Core.List.{List, [], _∷_}
 use native.Mathlib.Omega.{arith}
 use lib.Dec.{ltb}
 use lib.ListN.{length}
-use Rattle.octets.proofs.Picks.{on-pick, on-test}
+use Rattle.octets.proofs.Picks.{on-test}
 use Rattle.octets.specs.Bytes.{part}
 use Rattle.card.specs.Row.{Card}
 use Rattle.tlv.specs.declared.template.Template.{Template}
@@ -18,7 +18,8 @@ use Rattle.command.specs.Commands.{State, started, stepped}
 use Rattle.compact.specs.Compact as compact
 use Rattle.compact.specs.Compact.{readAt, placeAfter, stepRead, stepAt}
 use Rattle.expanded.specs.Expanded as expanded
-use Rattle.expanded.specs.Expanded.{Progress, begun, answered, stepCapdu, stepBad}
+use Rattle.expanded.specs.Expanded.{Progress, begun, stepCapdu, stepBad}
+use Rattle.expanded.proofs.Going.{counts-one}
 use Rattle.demands.specs.Commands.{after, lastOf, Read, readIn, commandsFrom, commandsOf, commandDone, wordGoesOn, statesAfter, Piece, capdu, badFormat, piecesFrom, piecesIn, piecesOf, isDefinite, pieceDone, pieceGoesOn, progressAfter}
 use Rattle.demands.specs.Demand2.{CompactRuns, ExpandedRuns}
 
@@ -97,8 +98,8 @@ module _ (script : List ℕ) (domain : ℕ) (definite : Bool) (end : ℕ) where
       refl
 
 piece-counts : (definite : Bool) (domain : ℕ) (p : Progress) (piece : Piece) → pieceDone definite domain p piece .state .step .count ≡ p .state .step .count + 1
-unfolding pieceDone stepCapdu stepBad answered stepped
-piece-counts definite domain p (capdu bytes) = on-pick (λ (q : Progress). q .state .step .count ≡ p .state .step .count + 1) _ _ _ (λ _. refl) (λ _. refl)
+unfolding pieceDone stepBad
+piece-counts definite domain p (capdu bytes) = counts-one definite domain bytes p
 piece-counts definite domain p (badFormat code) = refl
 
 template-ends : (template : Template) (script : List ℕ) (application domain : ℕ) (card : Card) → expanded.run template script application domain card ≡ lastOf (begun application card) (progressAfter template script application domain card)

@@ -1,64 +1,7 @@
--- Demand 3: a take-back after an accepted run gives back the card from before it; and with the laws of refused calls, every history of scripts that are bytes. Assumes nothing.
-use Prim.Native.Nat.{ℕ, _<_}
-use mathlib.Core.Path.{_≡_, sym, ap, _∙_}
-use mathlib.Core.List.{List, []}
-use native.Mathlib.Omega.{arith}
-use Rattle.octets.specs.Bytes.{byte}
-use Rattle.card.specs.Row.{Card}
-use Rattle.tlv.specs.Templates.{templateOf}
-use Rattle.journal.proofs.Undone.{back-mark}
-use Rattle.session.specs.declared.Session.{Session}
-use Rattle.session.specs.Session.{start, startWaiting}
-use Rattle.command.specs.declared.Format.{Format}
-use Rattle.command.specs.declared.Format.the-variants.{Compact, Expanded}
-use Rattle.command.proofs.Keeps.{Holds, starts-holds}
-use Rattle.compact.proofs.Runs as compact
-use Rattle.expanded.proofs.Runs as expanded
-use Rattle.engine.specs.Numbers.{Arguments, formatOf, firstGiven, runRefusals}
-use Rattle.engine.specs.Calls.{Result, gives, numbered, accepted, runScript}
-use Rattle.demands.specs.Given.{running, takingBack, given, number}
-use Rattle.demands.specs.Demand2.{withMark}
-use Rattle.demands.specs.Demand3.{InBytes, Demand3}
-use Rattle.demands.proofs.History.{Laws, replayed}
-use Rattle.engine.proofs.Answers.{back-done}
-use Rattle.engine.proofs.Accepted.{is-sound, mark-room, marked-starts}
-use Rattle.demands.proofs.LawsAlike.{alike}
-use Rattle.demands.proofs.LawsRefused.{refused, notBack, notConfirm, run-number, run-done}
-
-module _ (a : Arguments) (c : Card) (small : (i : ℕ) → byte (a .script) i < 256) (ok : number (given (running a) c) ≡ 0) where
-  free : firstGiven (runRefusals c a) ≡ 0
-  unfolding given
-  free = sym (run-number a c) ∙ ok
-
-  -- the mark is on the card
-  begins : Holds c (start (a .application)) startWaiting (withMark c)
-  begins =
-      rw (back-mark c (is-sound c a free) (mark-room c a free)) at (starts-holds (withMark c) (a .application) (marked-starts c a free))
-
-  -- and what holds at the script's start holds at its end
-  ends : (f : Format) → (s : Session) × (waiting : List ℕ) × Holds c s waiting (runScript f a (withMark c) .card)
-  unfolding runScript accepted
-  ends Compact = (_, _, compact.run-keeps (a .script) small c (a .application) (a .domain) _ begins)
-  ends Expanded = (_, _, expanded.run-keeps (a .script) small c (templateOf (a .script)) (a .application) (a .domain) _ begins)
-
-taken-back : (a : Arguments) (c : Card) → InBytes (running a) → number (given (running a) c) ≡ 0 → given takingBack (given (running a) c .card) ≡ gives (numbered 0) c []
-unfolding given
-taken-back a c small ok =
-    let d = runScript (formatOf (a .format)) a (withMark c) .card in
-    let h = ends a c small ok (formatOf (a .format)) .2 in
-    ap (λ (r : Result). given takingBack (r .card)) (run-done a c ok)
-    ∙ back-done d (h .sound) (λ z. let t = h .trial in omega arith)
-    ∙ ap (λ (k : Card). gives (numbered 0) k []) (h .back)
-
-laws : Laws
-laws =
-    record {
-      refused = λ h c z. ap (λ (r : Result). r .card) (refused h c z);
-      back = λ a c small ok. ap (λ (r : Result). r .card) (taken-back a c small ok);
-      alike = alike;
-      notBack = notBack;
-      notConfirm = notConfirm;
-    }
+-- Demand 3: every history of calls whose scripts are bytes, and the plain case, a take-back after an accepted run. Assumes nothing.
+use Rattle.demands.specs.Demand3.{Demand3}
+use Rattle.demands.proofs.LawsTaken.{taken-back}
+use Rattle.demands.proofs.History.{replayed}
 
 pub demand3 : Demand3
-demand3 = record { history = replayed laws; takeBack = taken-back }
+demand3 = record { history = replayed; takeBack = taken-back }

@@ -11,7 +11,7 @@ use Rattle.tlv.specs.declared.template.Template.{Template}
 use Rattle.tlv.specs.declared.template.Template.the-variants.{Definite, Indefinite, Missing}
 use Rattle.tlv.specs.Lengths.{lengthBytes}
 use Rattle.tlv.specs.Templates.{templateOf}
-use Rattle.journal.specs.Changes.{perform}
+use Rattle.journal.specs.Changes.{perform, withMark}
 use Rattle.session.specs.Session.{start, startWaiting}
 use Rattle.command.specs.declared.Format.the-variants.{Compact, Expanded}
 use Rattle.command.specs.Instructions as ins
@@ -30,7 +30,7 @@ use Rattle.engine.specs.Calls.{accepted, runScript}
 use Rattle.demands.specs.Given.{running, given, number}
 use Rattle.engine.specs.Hex.{digit, hex}
 use Rattle.demands.specs.Commands.{Read, readIn, commandsOf, commandDone, wordGoesOn, statesAfter, Piece, capdu, piecesOf, isDefinite, pieceDone, pieceGoesOn, progressAfter}
-use Rattle.demands.specs.Demand2.{withMark, WorksOnFile, firstSituation, oneCommand, noFile, Fresh}
+use Rattle.demands.specs.Demand2.{WorksOnFile, firstSituation, oneCommand, noFile, Fresh}
 use Rattle.demands.proofs.LawsRefused.{run-done}
 use Rattle.demands.proofs.Commands.{one-only, compact-runs, expanded-runs}
 

@@ -1,6 +1,6 @@
--- Demand 3 for any history, from laws of one call: a refused call changes nothing; a take-back after an accepted run gives back the
--- card from before it, if the run's script is bytes; a call that is refused, and not with 5, is refused alike on the card that a take-back leaves; 5 is for runs.
--- Assumes nothing.
+-- Demand 3 for any history: what remains of it, played again, gives the same. It goes from the laws of one call: a refused call changes nothing; a
+-- take-back after an accepted run gives back the card from before it, if the run's script is bytes; a call that is refused, and not with 5, is
+-- refused alike on the card that a take-back leaves; 5 is for runs. Assumes nothing.
 use mathlib.Core.Path.{_≡_, refl, sym, ap, ap₂, _∙_, subst}
 use mathlib.Core.Bool.{Bool, true, false, _||_, false≢true}
 use mathlib.Core.List.{List, [], _∷_, _++_, map, reverse, reverse-cons, map-append}
@@ -13,14 +13,10 @@ use Rattle.engine.specs.Calls.{Result}
 use Rattle.engine.specs.Numbers.{Arguments}
 use Rattle.demands.specs.Given.{Call, running, takingBack, confirming, given, number, Seen, seen}
 use Rattle.demands.specs.Demand3.{gave, left, Past, anyOnTrial, struck, settled, past, afterRun, afterTakeBack, afterConfirm, afterCall, remainsFrom, remains, InBytes, AllInBytes, callsOf, answersOf, Replayed}
-
-pub record Laws : Type 0 where
-  pub refused : (h : Call) (c : Card) → (number (given h c) ≡ 0 → ⊥) → given h c .card ≡ c
-  pub back : (a : Arguments) (c : Card) → InBytes (running a) → number (given (running a) c) ≡ 0 → given takingBack (given (running a) c .card) .card ≡ c
-  pub alike : (h : Call) (c : Card) → number (given takingBack c) ≡ 0 → (number (given h c) ≡ 0 → ⊥) → (number (given h c) ≡ 5 → ⊥)
-      → seen (given h (given takingBack c .card)) ≡ seen (given h c)
-  pub notBack : (c : Card) → number (given takingBack c) ≡ 5 → ⊥
-  pub notConfirm : (c : Card) → number (given confirming c) ≡ 5 → ⊥
+use Rattle.demands.proofs.LawsRefused.{unchanged}
+use Rattle.demands.proofs.LawsTaken.{taken-back}
+use Rattle.demands.proofs.LawsAlike.{alike}
+use Rattle.demands.proofs.Demand1.{back-not-five, confirm-not-five}
 
 -- a call that remains was refused, and not with 5
 record Refused (p : Past) : Type 0 where
@@ -83,131 +79,130 @@ shown-number : (p : Past) (r : Result) → seen r ≡ p .gave → number r ≡ p
 unfolding seen
 shown-number p r e = ap (λ (s : Seen). s .answer .number) e
 
-module _ (laws : Laws) where
-  -- a take-back from an accepted run's card
-  strike-trial : (p : Past) (m c′ : Card) (a : Arguments) → p .call ≡ running a → p .gave .answer .number ≡ 0 → InBytes (running a)
-      → seen (given (p .call) m) ≡ p .gave → given (p .call) m .card ≡ c′ → m ≡ given takingBack c′ .card
-  strike-trial p m c′ a ca n small s e =
-      sym (laws .back a m small (sym (ap (λ (h : Call). number (given h m)) ca) ∙ shown-number p (given (p .call) m) s ∙ n))
-      ∙ ap (λ (k : Card). given takingBack k .card) (sym (ap (λ (h : Call). given h m .card) ca) ∙ e)
+-- a take-back from an accepted run's card
+strike-trial : (p : Past) (m c′ : Card) (a : Arguments) → p .call ≡ running a → p .gave .answer .number ≡ 0 → InBytes (running a)
+    → seen (given (p .call) m) ≡ p .gave → given (p .call) m .card ≡ c′ → m ≡ given takingBack c′ .card
+strike-trial p m c′ a ca n small s e =
+    sym (ap (λ (r : Result). r .card) (taken-back a m small (sym (ap (λ (h : Call). number (given h m)) ca) ∙ shown-number p (given (p .call) m) s ∙ n)))
+    ∙ ap (λ (k : Card). given takingBack k .card) (sym (ap (λ (h : Call). given h m .card) ca) ∙ e)
 
-  -- a refused call leaves the card
-  still : (p : Past) (m : Card) → Refused p → seen (given (p .call) m) ≡ p .gave → given (p .call) m .card ≡ m
-  still p m ref s = laws .refused (p .call) m (λ z. ref .notDone (sym (shown-number p (given (p .call) m) s) ∙ z))
+-- a refused call leaves the card
+still : (p : Past) (m : Card) → Refused p → seen (given (p .call) m) ≡ p .gave → given (p .call) m .card ≡ m
+still p m ref s = unchanged (p .call) m (λ z. ref .notDone (sym (shown-number p (given (p .call) m) s) ∙ z))
 
-  -- a refused call on the card that a take-back leaves
-  again : (p : Past) (m : Card) → Refused p → seen (given (p .call) m) ≡ p .gave → number (given takingBack m) ≡ 0
-      → seen (given (p .call) (given takingBack m .card)) ≡ p .gave
-  again p m ref s ok =
-      let n : number (given (p .call) m) ≡ p .gave .answer .number = shown-number p (given (p .call) m) s in
-      laws .alike (p .call) m ok (λ z. ref .notDone (sym n ∙ z)) (λ z. ref .notFive (sym n ∙ z)) ∙ s
+-- a refused call on the card that a take-back leaves
+again : (p : Past) (m : Card) → Refused p → seen (given (p .call) m) ≡ p .gave → number (given takingBack m) ≡ 0
+    → seen (given (p .call) (given takingBack m .card)) ≡ p .gave
+again p m ref s ok =
+    let n : number (given (p .call) m) ≡ p .gave .answer .number = shown-number p (given (p .call) m) s in
+    alike (p .call) m ok (λ z. ref .notDone (sym n ∙ z)) (λ z. ref .notFive (sym n ∙ z)) ∙ s
 
-  refused-link : (ps : List Past) (p : Past) (m : Card) → Refused p → p .onTrial ≡ false → seen (given (p .call) m) ≡ p .gave
-      → Link ps p m m
-  refused-link ps p m ref off s =
-      record { card = still p m ref s; shown = s; trial = λ on. absurd (false≢true (sym off ∙ on)); newer = λ _ _. ref }
+refused-link : (ps : List Past) (p : Past) (m : Card) → Refused p → p .onTrial ≡ false → seen (given (p .call) m) ≡ p .gave
+    → Link ps p m m
+refused-link ps p m ref off s =
+    record { card = still p m ref s; shown = s; trial = λ on. absurd (false≢true (sym off ∙ on)); newer = λ _ _. ref }
 
-  -- the same with the newest call taken by itself
-  strike-at : (c : Card) (p : Past) (ps : List Past) (c′ : Card) (on : Bool) → p .onTrial ≡ on → Reached c (p ∷ ps) c′
-      → (on || anyOnTrial ps) ≡ true → number (given takingBack c′) ≡ 0
-      → ((m : Card) → Reached c ps m → anyOnTrial ps ≡ true → number (given takingBack m) ≡ 0 → Reached c (struck ps) (given takingBack m .card))
-      → Reached c (pick on ps (p ∷ struck ps)) (given takingBack c′ .card)
-  unfolding pick
-  strike-at c p ps c′ true on r any ok below =
-      let t = r .2 .trial on in
-      subst (λ (k : Card). Reached c ps k) (strike-trial p (r .0) c′ (t .0) (t .1) (t .2) (t .3) (r .2 .shown) (r .2 .card)) (r .1)
-  strike-at c p ps c′ false off r any ok below =
-      let m : Card = r .0 in
-      let ref : Refused p = r .2 .newer off any in
-      let same : m ≡ c′ = sym (still p m ref (r .2 .shown)) ∙ r .2 .card in
-      let ok′ : number (given takingBack m) ≡ 0 = ap (λ (k : Card). number (given takingBack k)) same ∙ ok in
-      subst (λ (k : Card). Reached c (p ∷ struck ps) (given takingBack k .card)) same
-      (given takingBack m .card, below m (r .1) any ok′, refused-link (struck ps) p (given takingBack m .card) ref off (again p m ref (r .2 .shown) ok′))
+-- one call of `strike` below: the newest is the script on trial that is struck out, or it was refused and stays
+strike-at : (c : Card) (p : Past) (ps : List Past) (c′ : Card) (on : Bool) → p .onTrial ≡ on → Reached c (p ∷ ps) c′
+    → (on || anyOnTrial ps) ≡ true → number (given takingBack c′) ≡ 0
+    → ((m : Card) → Reached c ps m → anyOnTrial ps ≡ true → number (given takingBack m) ≡ 0 → Reached c (struck ps) (given takingBack m .card))
+    → Reached c (pick on ps (p ∷ struck ps)) (given takingBack c′ .card)
+unfolding pick
+strike-at c p ps c′ true on r any ok below =
+    let t = r .2 .trial on in
+    subst (λ (k : Card). Reached c ps k) (strike-trial p (r .0) c′ (t .0) (t .1) (t .2) (t .3) (r .2 .shown) (r .2 .card)) (r .1)
+strike-at c p ps c′ false off r any ok below =
+    let m : Card = r .0 in
+    let ref : Refused p = r .2 .newer off any in
+    let same : m ≡ c′ = sym (still p m ref (r .2 .shown)) ∙ r .2 .card in
+    let ok′ : number (given takingBack m) ≡ 0 = ap (λ (k : Card). number (given takingBack k)) same ∙ ok in
+    subst (λ (k : Card). Reached c (p ∷ struck ps) (given takingBack k .card)) same
+    (given takingBack m .card, below m (r .1) any ok′, refused-link (struck ps) p (given takingBack m .card) ref off (again p m ref (r .2 .shown) ok′))
 
-  -- the newest script on trial is struck out: what is left reaches the card that a take-back leaves
-  strike : (c : Card) (ps : List Past) (c′ : Card) → Reached c ps c′ → anyOnTrial ps ≡ true → number (given takingBack c′) ≡ 0
-      → Reached c (struck ps) (given takingBack c′ .card)
-  unfolding anyOnTrial struck
-  strike c [] c′ r any ok = absurd (false≢true any)
-  strike c (p ∷ ps) c′ r any ok = strike-at c p ps c′ (p .onTrial) refl r any ok (λ m. strike c ps m)
+-- the newest script on trial is struck out: what is left reaches the card that a take-back leaves
+strike : (c : Card) (ps : List Past) (c′ : Card) → Reached c ps c′ → anyOnTrial ps ≡ true → number (given takingBack c′) ≡ 0
+    → Reached c (struck ps) (given takingBack c′ .card)
+unfolding anyOnTrial struck
+strike c [] c′ r any ok = absurd (false≢true any)
+strike c (p ∷ ps) c′ r any ok = strike-at c p ps c′ (p .onTrial) refl r any ok (λ m. strike c ps m)
 
-  -- a confirmation ends all trials
-  none-settled : (ps : List Past) → anyOnTrial (map settled ps) ≡ false
-  unfolding anyOnTrial settled
-  none-settled [] = refl
-  none-settled (p ∷ ps) = none-settled ps
+-- a confirmation ends all trials
+none-settled : (ps : List Past) → anyOnTrial (map settled ps) ≡ false
+unfolding anyOnTrial settled
+none-settled [] = refl
+none-settled (p ∷ ps) = none-settled ps
 
-  settle : (c : Card) (ps : List Past) (c′ : Card) → Reached c ps c′ → Reached c (map settled ps) c′
-  unfolding settled
-  settle c [] c′ e = e
-  settle c (p ∷ ps) c′ r = (
-    r .0,
-    settle c ps (r .0) (r .1),
-    record {
-      card = r .2 .card;
-      shown = r .2 .shown;
-      trial = λ on. absurd (false≢true on);
-      newer = λ _ any. absurd (false≢true (sym (none-settled ps) ∙ any));
-    },
-  )
+settle : (c : Card) (ps : List Past) (c′ : Card) → Reached c ps c′ → Reached c (map settled ps) c′
+unfolding settled
+settle c [] c′ e = e
+settle c (p ∷ ps) c′ r = (
+  r .0,
+  settle c ps (r .0) (r .1),
+  record {
+    card = r .2 .card;
+    shown = r .2 .shown;
+    trial = λ on. absurd (false≢true on);
+    newer = λ _ any. absurd (false≢true (sym (none-settled ps) ∙ any));
+  },
+)
 
-  -- a call that is not on trial stays: it was refused, or nothing older is on trial
-  stays : (c : Card) (ps : List Past) (m : Card) (h : Call) → Reached c ps m
-      → (anyOnTrial ps ≡ true → Refused (past h (given h m) false)) → Reached c (past h (given h m) false ∷ ps) (given h m .card)
-  unfolding past
-  stays c ps m h r newer =
-      (m, r, record { card = refl; shown = refl; trial = λ on. absurd (false≢true on); newer = λ _ any. newer any })
+-- a call that is not on trial stays: it was refused, or nothing older is on trial
+stays : (c : Card) (ps : List Past) (m : Card) (h : Call) → Reached c ps m
+    → (anyOnTrial ps ≡ true → Refused (past h (given h m) false)) → Reached c (past h (given h m) false ∷ ps) (given h m .card)
+unfolding past
+stays c ps m h r newer =
+    (m, r, record { card = refl; shown = refl; trial = λ on. absurd (false≢true on); newer = λ _ any. newer any })
 
-  -- a run
-  run-more : (c : Card) (ps : List Past) (m : Card) (a : Arguments) → InBytes (running a) → (done five : Bool) → Reached c ps m
-      → eqb (number (given (running a) m)) 0 ≡ done → eqb (number (given (running a) m)) 5 ≡ five
-      → Reached c (pick five ps (past (running a) (given (running a) m) done ∷ ps)) (given (running a) m .card)
-  unfolding pick past seen
-  run-more c ps m a small done true r d f =
-      subst (λ (k : Card). Reached c ps k) (sym (laws .refused (running a) m (λ z. omega (arith, eqb-true (number (given (running a) m)) 5 f)))) r
-  run-more c ps m a small true false r d f =
-      (m, r, record { card = refl; shown = refl; trial = λ _. (a, refl, eqb-true _ _ d, small); newer = λ off _. absurd (false≢true (sym off)) })
-  run-more c ps m a small false false r d f =
-      stays c ps m (running a) r (λ _. record { notDone = eqb-false _ _ d; notFive = eqb-false _ _ f })
+-- a run
+run-more : (c : Card) (ps : List Past) (m : Card) (a : Arguments) → InBytes (running a) → (done five : Bool) → Reached c ps m
+    → eqb (number (given (running a) m)) 0 ≡ done → eqb (number (given (running a) m)) 5 ≡ five
+    → Reached c (pick five ps (past (running a) (given (running a) m) done ∷ ps)) (given (running a) m .card)
+unfolding pick past seen
+run-more c ps m a small done true r d f =
+    subst (λ (k : Card). Reached c ps k) (sym (unchanged (running a) m (λ z. omega (arith, eqb-true (number (given (running a) m)) 5 f)))) r
+run-more c ps m a small true false r d f =
+    (m, r, record { card = refl; shown = refl; trial = λ _. (a, refl, eqb-true _ _ d, small); newer = λ off _. absurd (false≢true (sym off)) })
+run-more c ps m a small false false r d f =
+    stays c ps m (running a) r (λ _. record { notDone = eqb-false _ _ d; notFive = eqb-false _ _ f })
 
-  -- a take-back
-  back-more : (c : Card) (ps : List Past) (m : Card) (done any : Bool) → Reached c ps m
-      → eqb (number (given takingBack m)) 0 ≡ done → anyOnTrial ps ≡ any
-      → Reached c (pick done (pick any (struck ps) (past takingBack (given takingBack m) false ∷ ps)) (past takingBack (given takingBack m) false ∷ ps))
-      (given takingBack m .card)
-  unfolding pick
-  back-more c ps m true true r d t = strike c ps m r t (eqb-true _ _ d)
-  back-more c ps m true false r d t = stays c ps m takingBack r (λ some. absurd (false≢true (sym t ∙ some)))
-  back-more c ps m false any r d t =
-      stays c ps m takingBack r (λ _. unfold past seen in record { notDone = eqb-false _ _ d; notFive = laws .notBack m })
+-- a take-back
+back-more : (c : Card) (ps : List Past) (m : Card) (done any : Bool) → Reached c ps m
+    → eqb (number (given takingBack m)) 0 ≡ done → anyOnTrial ps ≡ any
+    → Reached c (pick done (pick any (struck ps) (past takingBack (given takingBack m) false ∷ ps)) (past takingBack (given takingBack m) false ∷ ps))
+    (given takingBack m .card)
+unfolding pick
+back-more c ps m true true r d t = strike c ps m r t (eqb-true _ _ d)
+back-more c ps m true false r d t = stays c ps m takingBack r (λ some. absurd (false≢true (sym t ∙ some)))
+back-more c ps m false any r d t =
+    stays c ps m takingBack r (λ _. unfold past seen in record { notDone = eqb-false _ _ d; notFive = back-not-five m })
 
-  -- a confirmation
-  confirm-more : (c : Card) (ps : List Past) (m : Card) (done : Bool) → Reached c ps m
-      → eqb (number (given confirming m)) 0 ≡ done
-      → Reached c (pick done (past confirming (given confirming m) false ∷ map settled ps) (past confirming (given confirming m) false ∷ ps))
-      (given confirming m .card)
-  unfolding pick
-  confirm-more c ps m true r d =
-      stays c (map settled ps) m confirming (settle c ps m r) (λ some. absurd (false≢true (sym (none-settled ps) ∙ some)))
-  confirm-more c ps m false r d =
-      stays c ps m confirming r (λ _. unfold past seen in record { notDone = eqb-false _ _ d; notFive = laws .notConfirm m })
+-- a confirmation
+confirm-more : (c : Card) (ps : List Past) (m : Card) (done : Bool) → Reached c ps m
+    → eqb (number (given confirming m)) 0 ≡ done
+    → Reached c (pick done (past confirming (given confirming m) false ∷ map settled ps) (past confirming (given confirming m) false ∷ ps))
+    (given confirming m .card)
+unfolding pick
+confirm-more c ps m true r d =
+    stays c (map settled ps) m confirming (settle c ps m r) (λ some. absurd (false≢true (sym (none-settled ps) ∙ some)))
+confirm-more c ps m false r d =
+    stays c ps m confirming r (λ _. unfold past seen in record { notDone = eqb-false _ _ d; notFive = confirm-not-five m })
 
-  -- one call more
-  call-more : (c : Card) (ps : List Past) (m : Card) (h : Call) → InBytes h → Reached c ps m → Reached c (afterCall h (given h m) ps) (given h m .card)
-  unfolding afterCall afterRun afterTakeBack afterConfirm
-  call-more c ps m (running a) small r =
-      run-more c ps m a small (eqb (number (given (running a) m)) 0) (eqb (number (given (running a) m)) 5) r refl refl
-  call-more c ps m takingBack small r = back-more c ps m (eqb (number (given takingBack m)) 0) (anyOnTrial ps) r refl refl
-  call-more c ps m confirming small r = confirm-more c ps m (eqb (number (given confirming m)) 0) r refl
+-- one call more
+call-more : (c : Card) (ps : List Past) (m : Card) (h : Call) → InBytes h → Reached c ps m → Reached c (afterCall h (given h m) ps) (given h m .card)
+unfolding afterCall afterRun afterTakeBack afterConfirm
+call-more c ps m (running a) small r =
+    run-more c ps m a small (eqb (number (given (running a) m)) 0) (eqb (number (given (running a) m)) 5) r refl refl
+call-more c ps m takingBack small r = back-more c ps m (eqb (number (given takingBack m)) 0) (anyOnTrial ps) r refl refl
+call-more c ps m confirming small r = confirm-more c ps m (eqb (number (given confirming m)) 0) r refl
 
-  -- a whole history
-  all-more : (c : Card) (ps : List Past) (m : Card) (hs : List Call) → AllInBytes hs → Reached c ps m → Reached c (remainsFrom m ps hs) (left m hs)
-  unfolding remainsFrom left
-  all-more c ps m [] small r = r
-  all-more c ps m (h ∷ hs) small r = all-more c (afterCall h (given h m) ps) (given h m .card) hs (small .1) (call-more c ps m h (small .0) r)
+-- a whole history
+all-more : (c : Card) (ps : List Past) (m : Card) (hs : List Call) → AllInBytes hs → Reached c ps m → Reached c (remainsFrom m ps hs) (left m hs)
+unfolding remainsFrom left
+all-more c ps m [] small r = r
+all-more c ps m (h ∷ hs) small r = all-more c (afterCall h (given h m) ps) (given h m .card) hs (small .1) (call-more c ps m h (small .0) r)
 
-  pub replayed : (c : Card) (hs : List Call) → AllInBytes hs → Replayed c hs
-  unfolding remains
-  replayed c hs small =
-      let played = replay c (remainsFrom c [] hs) (left c hs) (all-more c [] c hs small refl) in
-      record { answers = played .0; card = played .1 }
+pub replayed : (c : Card) (hs : List Call) → AllInBytes hs → Replayed c hs
+unfolding remains
+replayed c hs small =
+    let played = replay c (remainsFrom c [] hs) (left c hs) (all-more c [] c hs small refl) in
+    record { answers = played .0; card = played .1 }

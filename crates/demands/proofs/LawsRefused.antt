@@ -1,26 +1,21 @@
--- The numbers of the three calls, and what comes of them: a refused call gives its number alone, an accepted run is its script, 5 is for runs, and
--- what an accepted take-back is. Assumes nothing.
+-- The numbers of the three calls, and what comes of them: a refused call gives its number alone and leaves the card, an accepted run is its
+-- script, and an accepted take-back leaves the card that `takenBack` gives. Assumes nothing.
 use Prim.Native.Nat.{ℕ}
 use mathlib.Core.Path.{_≡_, refl, sym, ap, _∙_}
-use mathlib.Core.Bool.{Bool, true, false, not}
 use mathlib.Core.List.{List, []}
-use native.Mathlib.Omega.{arith}
-use lib.Dec.{ltb, eqb}
-use lib.ListN.{length}
+use mathlib.Core.Logic.{_↔_}
+use lib.Dec.{eqb}
 use borrow.Author.Tests.{eqb-true}
-use Rattle.octets.specs.Choice.{pick}
 use Rattle.octets.proofs.Picks.{on-test}
 use Rattle.card.specs.Row.{Card}
-use Rattle.journal.specs.Sound.{soundCard}
-use Rattle.journal.specs.Changes.{takenBack}
+use Rattle.journal.specs.Changes.{takenBack, withMark}
 use Rattle.command.specs.declared.Format.{Format}
 use Rattle.command.specs.declared.Format.the-variants.{Compact, Expanded}
-use Rattle.engine.specs.Numbers.{Arguments, formatOf, argumentsFit, scriptFits, leastResponse, markFits, templateFits, firstGiven, notSound, runRefusals, takeBackRefusals, confirmRefusals}
+use Rattle.engine.specs.Numbers.{Arguments, formatOf, firstGiven, runRefusals, takeBackRefusals, confirmRefusals}
 use Rattle.engine.specs.Calls.{Result, gives, numbered, accepted, unlessRefused, runScript, run, takeBack, confirm}
 use Rattle.engine.proofs.Answers.{given-nothing, given-done}
-use Rattle.engine.proofs.Accepted.{firstOf}
+use Rattle.engine.proofs.RunNumbers.{RunMet, is-met, meets}
 use Rattle.demands.specs.Given.{Call, running, takingBack, confirming, given, number, lentResponse}
-use Rattle.demands.specs.Demand2.{withMark}
 
 -- a call that is done where no number is given
 module _ (n : ℕ) (c : Card) (response : List ℕ) (r : Result) (done : number r ≡ 0) where
@@ -49,15 +44,10 @@ pub confirm-number : (c : Card) → number (confirm c) ≡ firstGiven (confirmRe
 unfolding confirm
 confirm-number c = given-number _ c [] _ refl
 
--- a run's number by its tests: of the card and the arguments, and whether a mark fits
-abbrev pub tested : Arguments → Bool → Bool → Bool → ℕ
-tested a sound fits mark =
-    firstOf sound fits (scriptFits (a .script)) (ltb (length (a .response)) (leastResponse (formatOf (a .format)))) mark
-    (templateFits (formatOf (a .format)) (a .script))
-
-pub run-tested : (a : Arguments) (c : Card) → number (run a c) ≡ tested a (soundCard c) (argumentsFit (c .table) a) (markFits (c .journal))
-unfolding runRefusals notSound firstGiven
-run-tested a c = run-number a c
+-- a run has a number exactly where it meets it
+pub run-met : (a : Arguments) (c : Card) (n : ℕ) → number (given (running a) c) ≡ n ↔ RunMet c a n
+unfolding given
+run-met a c n = (λ e. is-met c a (sym (run-number a c) ∙ e), λ h. run-number a c ∙ sym (meets c a n h))
 
 -- an accepted run is its script, on the card with its mark
 pub run-done : (a : Arguments) (c : Card) → number (given (running a) c) ≡ 0 → given (running a) c ≡ runScript (formatOf (a .format)) a (withMark c)
@@ -71,36 +61,11 @@ refused (running a) c z = given-alone _ c (a .response) _ (script-done (formatOf
 refused takingBack c z = given-alone _ c [] _ refl z
 refused confirming c z = given-alone _ c [] _ refl z
 
--- 5 is for runs
-not-five : (a b : Bool) → _≡_ {A = ℕ} (pick a 1 (pick b 7 0)) 5 → ⊥
-unfolding pick
-not-five true b h = omega arith
-not-five false true h = omega arith
-not-five false false h = omega arith
+-- and leaves the card
+pub unchanged : (h : Call) (c : Card) → (number (given h c) ≡ 0 → ⊥) → given h c .card ≡ c
+unchanged h c z = ap (λ (r : Result). r .card) (refused h c z)
 
-pub notBack : (c : Card) → number (given takingBack c) ≡ 5 → ⊥
-unfolding given takeBackRefusals notSound firstGiven
-notBack c h = not-five _ _ (sym (back-number c) ∙ h)
-
-pub notConfirm : (c : Card) → number (given confirming c) ≡ 5 → ⊥
-unfolding given confirmRefusals notSound firstGiven pick
-notConfirm c h = not-five (not (soundCard c)) false (sym (confirm-number c) ∙ h)
-
--- an accepted take-back
-first-sound : (b : Bool) (n : ℕ) → pick (not b) 1 n ≡ 0 → b ≡ true
-unfolding pick
-first-sound true n h = refl
-first-sound false n h = absurd (omega arith)
-
-module _ (c : Card) (ok : number (given takingBack c) ≡ 0) where
-  none : firstGiven (takeBackRefusals c) ≡ 0
-  unfolding given
-  none = sym (back-number c) ∙ ok
-
-  pub back-sound : soundCard c ≡ true
-  unfolding takeBackRefusals notSound firstGiven
-  back-sound = first-sound (soundCard c) _ none
-
-  pub back-card : given takingBack c .card ≡ takenBack c
-  unfolding given takeBack
-  back-card = ap (λ (r : Result). r .card) (given-done _ c [] _ none)
+-- an accepted take-back leaves the card that `takenBack` gives
+pub back-card : (c : Card) → number (given takingBack c) ≡ 0 → given takingBack c .card ≡ takenBack c
+unfolding given takeBack
+back-card c ok = ap (λ (r : Result). r .card) (given-done _ c [] _ (sym (back-number c) ∙ ok))

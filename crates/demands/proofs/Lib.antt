@@ -1,11 +1,12 @@
-pub mod Worked
-pub mod History
 pub mod LawsRefused
+pub mod LawsTaken
 pub mod LawsAlike
-pub mod Demand3
+pub mod History
 pub mod Demand1
 pub mod Commands
 pub mod AllRead
 pub mod Fresh
+pub mod Worked
 pub mod Demand2
+pub mod Demand3
 pub mod Demands

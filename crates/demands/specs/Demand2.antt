@@ -8,7 +8,7 @@ use mathlib.Core.List.{List, [], _∷_}
 use mathlib.Core.Option.{none}
 use mathlib.Core.Path.{_≡_}
 use lib.ListN.{length}
-use Rattle.octets.specs.Bytes.{byte, overwrite, zeros}
+use Rattle.octets.specs.Bytes.{AllBytes, overwrite, zeros}
 use Rattle.card.specs.declared.Row.{Row}
 use Rattle.card.specs.Row.{Card}
 use Rattle.card.specs.Sound.{recordCount}
@@ -16,7 +16,7 @@ use Rattle.card.specs.Records.{cyclicPlace, recordOffset}
 use Rattle.tlv.specs.declared.template.Template.{Template}
 use Rattle.tlv.specs.declared.template.Template.the-variants.{Definite, Indefinite, Missing}
 use Rattle.tlv.specs.Templates.{templateOf}
-use Rattle.journal.specs.Changes.{withJournal, marked}
+use Rattle.journal.specs.Changes.{withMark}
 use Rattle.session.specs.Session as session
 use Rattle.session.specs.Session.{start}
 use Rattle.command.specs.declared.Format.{Format}
@@ -56,10 +56,6 @@ pub record ExpandedRuns (template : Template) (script : List ℕ) (application d
       ≡ length (progressAfter template script application domain card)
 
 -- ---- "Each script starts afresh."
-
--- the card that an accepted run's script starts on: it has the script's mark
-abbrev pub withMark : Card → Card
-withMark c = withJournal c (marked (c .journal))
 
 -- a command that works on a file: neither SELECT nor GET RESPONSE, and no formal check fails
 pub record WorksOnFile (w : Situation) : Type 0 where
@@ -136,7 +132,7 @@ pub record Demand2 : Type 0 where
   -- and these are all that the script has: no larger bound reads one more
   pub allCommands : (script : List ℕ) (n : ℕ) → length script ≤ n → commandsFrom n script 0 ≡ commandsOf script
   pub allPieces :
-      (script : List ℕ) → ((i : ℕ) → byte script i < 256) → (n : ℕ) → length script ≤ n
+      (script : List ℕ) → AllBytes script → (n : ℕ) → length script ≤ n
       → piecesIn n (templateOf script) script ≡ piecesOf (templateOf script) script
   -- two scripts in a row: the second starts afresh, whatever the first selected
   pub fresh :

@@ -1,13 +1,13 @@
 -- Demand 3: "Any history of scripts, take-backs and confirmations: strike out each script that was taken back with its take-back, and
 -- each run refused with number 5. What demand 2's rules give for the remaining calls, from the same start, is what the card gave: the
 -- same answers, and at the end the same table, files and journal, byte by byte."
-use Prim.Native.Nat.{ℕ, _<_}
+use Prim.Native.Nat.{ℕ}
 use mathlib.Core.Bool.{Bool, false, _||_}
 use mathlib.Core.Path.{_≡_}
 use mathlib.Core.List.{List, [], _∷_, map, reverse}
 use lib.Dec.{eqb}
 use Rattle.octets.specs.Choice.{pick}
-use Rattle.octets.specs.Bytes.{byte}
+use Rattle.octets.specs.Bytes.{AllBytes}
 use Rattle.card.specs.Row.{Card}
 use Rattle.engine.specs.Numbers.{Arguments}
 use Rattle.engine.specs.Calls.{Result, gives, numbered}
@@ -71,7 +71,7 @@ remains c hs = reverse (remainsFrom c [] hs)
 
 -- a script is bytes, and so is each script of a history
 abbrev pub InBytes : Call → Type 0
-InBytes (running a) = (i : ℕ) → byte (a .script) i < 256
+InBytes (running a) = AllBytes (a .script)
 InBytes takingBack = Unit
 InBytes confirming = Unit
 

@@ -6,12 +6,12 @@ use Prim.Native.Nat.{ℕ, _+_, _≤_, _<_}
 use native.Mathlib.Omega.{arith}
 use lib.ListN.{length, take}
 use lib.Seq.{take-add}
-use Rattle.octets.specs.Bytes.{byte, overwrite}
+use Rattle.octets.specs.Bytes.{AllBytes, overwrite}
 use Rattle.octets.proofs.Writes.{write-none}
 use Rattle.card.specs.Row.{Card}
 use Rattle.tlv.specs.declared.template.Template.{Template}
 use Rattle.tlv.specs.declared.template.Template.the-variants.{Definite, Indefinite, Missing}
-use Rattle.tlv.specs.Templates.{templateOf, TemplateFits}
+use Rattle.tlv.specs.Templates.{templateOf}
 use Rattle.journal.specs.Sound.{Starts}
 use Rattle.journal.specs.Changes.{takenBack}
 use Rattle.command.specs.declared.Format.the-variants.{Compact, Expanded}
@@ -33,7 +33,7 @@ use Rattle.engine.specs.Numbers.{Arguments}
 use Rattle.engine.specs.Calls.{Result, gives, numbered, Small, accepted, runValue, runScript}
 
 -- a compact script: its answer has room
-pub compact-room : (script : List ℕ) → ((i : ℕ) → byte script i < 256) → {application : ℕ} (domain : ℕ) {card : Card} → Starts card application → length script ≤ 1024
+pub compact-room : (script : List ℕ) → AllBytes script → {application : ℕ} (domain : ℕ) {card : Card} → Starts card application → length script ≤ 1024
     → {step : Step} {waiting : List ℕ} {after : Card} → stateOf step waiting after ≡ compact.run script application domain card
     → {response : ℕ} → 1024 ≤ response → (length waiting ≡ 255) × OutcomeFits (length (after .files)) (step .outcome) × (step .count < 256) × (3 + dataCount (step .outcome) ≤ response)
 compact-room script small {application} domain {card} starts short {step} {waiting} {after} e long =
@@ -81,10 +81,6 @@ value-gives definite at end a card g waiting after out response n e r l =
     (λ i. gives (record { number = 0; length = l i; count = g .step .count }) after (r i))
     ∙ (λ i. accepted (stateOf (g .step) waiting after) (expanded.answerBytes definite (g .step .count) (take-add (g .kept) (g .last) out i)) (a .response))
     ∙ ap (λ (p : Progress). accepted (p .state) (expanded.answerBytes definite (p .state .step .count) (p .kept ++ p .last)) (a .response)) e
-
--- where the value of a known template lies
-pub known-lies : {t other : Template} → t ≡ other → (script : ℕ) → TemplateFits script t → TemplateFits script other
-known-lies same script = subst (TemplateFits script) same
 
 -- the value of a template of either form, and no template
 module _ (a : Arguments) (card : Card) where

@@ -1,3 +1,4 @@
+pub mod RunNumbers
 pub mod Answers
 pub mod Refusals
 pub mod Accepted

@@ -1,23 +1,19 @@
--- The numbers of a run, case by case: each is the first whose condition holds, and 0 where none does. Assumes nothing.
+-- What the code tests for the numbers 2 and 6: an application's root, and the template of a format. Assumes nothing.
 use mathlib.Core.Path.{_≡_, refl}
 use mathlib.Core.Bool.{Bool, true, false, not, _&&_, _||_}
 use mathlib.Core.List.{List}
-use Prim.Native.Nat.{ℕ, _≤_, _<_}
+use Prim.Native.Nat.{ℕ}
 use native.Mathlib.Omega.{arith}
 use lib.Dec.{leb, ltb, eqb}
-use lib.ListN.{length}
-use borrow.Author.Tests.{eqb-true, eqb-false, ltb-true, lt-ltb, le-ltb, eq-eqb, ne-eqb}
+use borrow.Author.Tests.{eqb-true, eqb-false, ltb-true, lt-ltb, eq-eqb, ne-eqb}
 use Rattle.octets.specs.Choice.{pick}
-use Rattle.card.specs.Row.{Card, entries, rowOf}
+use Rattle.card.specs.Row.{entries, rowOf}
 use Rattle.card.specs.Sound.{soundTable}
 use Rattle.card.specs.Tree.{isRoot}
 use Rattle.card.proofs.Promises.{some-entries, first-kind, other-kind}
 use Rattle.tlv.specs.declared.template.Template.{Template}
 use Rattle.tlv.specs.Templates.{templateOf}
-use Rattle.journal.specs.Sound.{soundCard}
-use Rattle.command.specs.declared.Format.{Format}
-use Rattle.command.specs.declared.Format.the-variants.{Compact, Expanded}
-use Rattle.engine.specs.Numbers.{Arguments, formatOf, isMissing, applicationFits, argumentsFit, scriptFits, leastResponse, markFits, templateFits, firstGiven, notSound, runRefusals}
+use Rattle.engine.specs.Numbers.{Arguments, formatOf, isMissing, applicationFits, argumentsFit, templateFits}
 
 -- in a sound table, 0 and the ADFs are the roots
 module _ (t files : List ℕ) (sound : soundTable t files ≡ true) (a : ℕ) where
@@ -33,7 +29,7 @@ module _ (t files : List ℕ) (sound : soundTable t files ≡ true) (a : ℕ) wh
 pub arguments-root : (t files : List ℕ) → soundTable t files ≡ true → (a : Arguments)
     → argumentsFit t a ≡ (leb (a .format) 1 && ((ltb (a .application) (entries t) && isRoot (rowOf t (a .application))) && (eqb (a .domain) 0x00 || eqb (a .domain) 0xFF)))
 unfolding argumentsFit
-arguments-root t files sound a = λ i. leb (a .format) 1 && (application-root t files sound (a .application) i && (eqb (a .domain) 0x00 || eqb (a .domain) 0xFF))
+arguments-root t files sound a = rw (application-root t files sound (a .application))
 
 -- the template of a format
 pub compact-fits : (format : ℕ) (script : List ℕ) → format ≡ 0 → true ≡ templateFits (formatOf format) script
@@ -43,44 +39,3 @@ compact-fits format script z = rw (eq-eqb format 0 z)
 pub expanded-fits : (format : ℕ) (script : List ℕ) {t : Template} → (format ≡ 0 → ⊥) → templateOf script ≡ t → not (isMissing t) ≡ templateFits (formatOf format) script
 unfolding templateFits formatOf pick
 expanded-fits format script z e = rw (ne-eqb format 0 z, e)
-
--- the response memory of either format
-pub least-response : (f : Format) → leastResponse f ≡ 1024
-unfolding leastResponse
-least-response Compact = refl
-least-response Expanded = refl
-
--- a run meets a number where the tests before it pass and its own does not
-module _ (c : Card) (a : Arguments) where
-  pub meets-1 : soundCard c ≡ false → 1 ≡ firstGiven (runRefusals c a)
-  unfolding runRefusals notSound firstGiven pick
-  meets-1 h = rw h
-
-  module _ (sound : soundCard c ≡ true) where
-    pub meets-2 : argumentsFit (c .table) a ≡ false → 2 ≡ firstGiven (runRefusals c a)
-    unfolding runRefusals notSound firstGiven pick
-    meets-2 h = rw (sound, h)
-
-    module _ (arguments : argumentsFit (c .table) a ≡ true) where
-      pub meets-3 : scriptFits (a .script) ≡ false → 3 ≡ firstGiven (runRefusals c a)
-      unfolding runRefusals notSound firstGiven pick
-      meets-3 h = rw (sound, arguments, h)
-
-      module _ (script : scriptFits (a .script) ≡ true) where
-        pub meets-4 : length (a .response) < 1024 → 4 ≡ firstGiven (runRefusals c a)
-        unfolding runRefusals notSound firstGiven pick
-        meets-4 h = rw (sound, arguments, script, least-response (formatOf (a .format)), lt-ltb (length (a .response)) 1024 h)
-
-        module _ (response : 1024 ≤ length (a .response)) where
-          pub meets-5 : markFits (c .journal) ≡ false → 5 ≡ firstGiven (runRefusals c a)
-          unfolding runRefusals notSound firstGiven pick
-          meets-5 h = rw (sound, arguments, script, least-response (formatOf (a .format)), le-ltb (length (a .response)) 1024 response, h)
-
-          module _ (mark : markFits (c .journal) ≡ true) where
-            pub meets-6 : templateFits (formatOf (a .format)) (a .script) ≡ false → 6 ≡ firstGiven (runRefusals c a)
-            unfolding runRefusals notSound firstGiven pick
-            meets-6 h = rw (sound, arguments, script, least-response (formatOf (a .format)), le-ltb (length (a .response)) 1024 response, mark, h)
-
-            pub meets-none : templateFits (formatOf (a .format)) (a .script) ≡ true → 0 ≡ firstGiven (runRefusals c a)
-            unfolding runRefusals notSound firstGiven pick
-            meets-none h = rw (sound, arguments, script, least-response (formatOf (a .format)), le-ltb (length (a .response)) 1024 response, mark, h)

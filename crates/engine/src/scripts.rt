@@ -9,7 +9,6 @@ ghost use mathlib.Core.Path.{_≡_};
 ghost use Prim.Native.Nat.{_≤_};
 ghost use lib.ListN.{length};
 ghost use Rattle.card.specs.Row.{lent};
-ghost use Rattle.journal.specs.Sound.{Starts};
 ghost use Rattle.command.specs.declared.Format.the-variants as formats;
 ghost use Rattle.engine.specs.Calls as spec;
 
@@ -23,7 +22,7 @@ pub fn run_compact(
     files: &mut [u8],
     journal: &mut [u8],
 ) -> Answer
-    requires { ⌜ Starts (lent (now table) (now files) (now journal)) application × (length (now script) ≤ 1024) × (1024 ≤ length (now response)) ⌝ }
+    requires { ⌜ spec.MayStart (lent (now table) (now files) (now journal)) application (now script) (now response) ⌝ }
     ensures { λ a. ⌜ (spec.gives a (lent (now (table .exit)) (now (files .exit)) (now (journal .exit))) (now (response .exit))
         ≡ spec.runScript formats.Compact (record { application = application; domain = domain; format = 0; script = now (script .entry); response = now (response .entry) })
         (lent (now (table .entry)) (now (files .entry)) (now (journal .entry)))) × spec.Small a ⌝ }
@@ -59,7 +58,7 @@ fn run_value(
     files: &mut [u8],
     journal: &mut [u8],
 ) -> Answer
-    requires { ⌜ (at ≤ end) × (end ≤ length (now script)) × Starts (lent (now table) (now files) (now journal)) application × (length (now script) ≤ 1024) × (1024 ≤ length (now response)) ⌝ }
+    requires { ⌜ (at ≤ end) × (end ≤ length (now script)) × spec.MayStart (lent (now table) (now files) (now journal)) application (now script) (now response) ⌝ }
     ensures { λ a. ⌜ (spec.gives a (lent (now (table .exit)) (now (files .exit)) (now (journal .exit))) (now (response .exit))
         ≡ spec.runValue definite at end (record { application = application; domain = domain; format = 1; script = now (script .entry); response = now (response .entry) })
         (lent (now (table .entry)) (now (files .entry)) (now (journal .entry)))) × spec.Small a ⌝ }
@@ -99,7 +98,7 @@ pub fn run_expanded(
     files: &mut [u8],
     journal: &mut [u8],
 ) -> Answer
-    requires { ⌜ Starts (lent (now table) (now files) (now journal)) application × (length (now script) ≤ 1024) × (1024 ≤ length (now response)) ⌝ }
+    requires { ⌜ spec.MayStart (lent (now table) (now files) (now journal)) application (now script) (now response) ⌝ }
     ensures { λ a. ⌜ (spec.gives a (lent (now (table .exit)) (now (files .exit)) (now (journal .exit))) (now (response .exit))
         ≡ spec.runScript formats.Expanded (record { application = application; domain = domain; format = 1; script = now (script .entry); response = now (response .entry) })
         (lent (now (table .entry)) (now (files .entry)) (now (journal .entry)))) × spec.Small a ⌝ }

@@ -8,7 +8,7 @@ use lib.Dec.{leb, eqb}
 use lib.ListN.{length}
 use borrow.Author.Tests.{leb-true, eqb-true}
 use Rattle.octets.specs.Choice.{pick}
-use Rattle.octets.specs.Bytes.{byte}
+use Rattle.octets.specs.Bytes.{byte, AllBytes}
 use Rattle.octets.proofs.Picks.{and-left, on-pick}
 use Rattle.command.specs.declared.Reading.{Reading}
 use Rattle.expanded.specs.Capdu.{caseBySize, carried, capduCommand, CapduFits}
@@ -55,7 +55,7 @@ read n a b p q r from count =
 abbrev pub Told : List ℕ → Reading → Type 0
 Told capdu r = (r ≡ capduCommand capdu) × CapduFits capdu r
 
-module _ (capdu : List ℕ) (bytes : (k : ℕ) → byte capdu k < 256) (least : 4 ≤ length capdu) where
+module _ (capdu : List ℕ) (bytes : AllBytes capdu) (least : 4 ≤ length capdu) where
   data-inside : (b : Bool) → (b ≡ true → 5 + byte capdu 4 ≤ length capdu) → pick b 5 4 + pick b (byte capdu 4) 0 ≤ length capdu
   unfolding pick
   data-inside true h = h refl
@@ -66,10 +66,7 @@ module _ (capdu : List ℕ) (bytes : (k : ℕ) → byte capdu k < 256) (least : 
   command-fits =
       record {
         inside = data-inside (leb 3 (caseBySize capdu)) (λ e. case-sized capdu (leb-true 3 (caseBySize capdu) e));
-        p1 = bytes 2;
-        p2 = bytes 3;
-        p3 = bytes 4;
-        brief = carried-few capdu (bytes 4);
+        bytes = record { p1 = bytes 2; p2 = bytes 3; p3 = bytes 4; brief = carried-few capdu (bytes 4) };
       }
 
   pub command-told : {n a b p q r from count : ℕ} → n ≡ caseBySize capdu → a ≡ byte capdu 0 → b ≡ byte capdu 1 → p ≡ byte capdu 2 → q ≡ byte capdu 3 → r ≡ byte capdu 4 → from ≡ pick (leb 3 n) 5 4 → count ≡ pick (leb 3 n) (byte capdu 4) 0 → Told capdu (read n a b p q r from count)

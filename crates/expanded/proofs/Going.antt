@@ -6,7 +6,7 @@ use Prim.Native.Nat.{ℕ, zero, suc, _+_, _≤_, _<_}
 use native.Mathlib.Omega.{arith}
 use lib.ListN.{length}
 use Rattle.octets.proofs.Picks.{on-pick}
-use Rattle.octets.specs.Bytes.{byte, part}
+use Rattle.octets.specs.Bytes.{AllBytes, part}
 use Rattle.card.specs.Row.{Card}
 use Rattle.tlv.specs.declared.template.Item.{Item}
 use Rattle.tlv.specs.declared.template.Item.the-variants.{Capdu, Bad, End}
@@ -34,7 +34,7 @@ module _ {at end : ℕ} {item : Item} where
   bad-lies fits known = subst (ItemFits at end) known fits
 
 -- one command more
-counts-one : (definite : Bool) (domain : ℕ) (capdu : List ℕ) (p : Progress) → stepCapdu definite domain capdu p .state .step .count ≡ p .state .step .count + 1
+pub counts-one : (definite : Bool) (domain : ℕ) (capdu : List ℕ) (p : Progress) → stepCapdu definite domain capdu p .state .step .count ≡ p .state .step .count + 1
 unfolding stepCapdu answered stepped
 counts-one definite domain capdu p = on-pick (λ (q : Progress). q .state .step .count ≡ p .state .step .count + 1) _ _ _ (λ y. refl) (λ n. refl)
 
@@ -135,7 +135,7 @@ module _ {script : List ℕ} {definite : Bool} {from end application domain : �
             let l = capdu-lies fits known in
             (e ∙ sym (stop-left script definite end domain at (progressOf g waiting card out) start size (l .0) (l .1) (sym is ∙ known) (going .fuel) (going .enough) (same-end off)) ∙ going .whole, room, omega arith)
 
-        pub goes : ((i : ℕ) → byte script i < 256) → next .kept ≤ mostKept → goesOn (wordOf (next .step .outcome)) ≡ true → Going script definite from end application domain card₀ bytes card′ out′ next (start + size)
+        pub goes : AllBytes script → next .kept ≤ mostKept → goesOn (wordOf (next .step .outcome)) ≡ true → Going script definite from end application domain card₀ bytes card′ out′ next (start + size)
         unfolding progressOf
         goes small few on =
             let c = going .counted in

@@ -6,7 +6,7 @@ use native.Mathlib.Decide.{decLt}
 use native.Mathlib.Omega.{arith}
 use lib.ListN.{length, length-take, List·getD-eq-default}
 use Rattle.octets.proofs.Picks.{on-pick, on-test}
-use Rattle.octets.specs.Bytes.{byte, part}
+use Rattle.octets.specs.Bytes.{byte, AllBytes, part}
 use Rattle.octets.proofs.Numbers.{byte-part}
 use Rattle.card.specs.Row.{Card}
 use Rattle.tlv.specs.declared.template.Template.{Template}
@@ -25,7 +25,7 @@ use Rattle.expanded.specs.Expanded.{Progress, answered, stepCapdu, stepB
 use Rattle.expanded.proofs.Fits.{carried-few}
 
 -- a part of a script of bytes is of bytes
-module _ (script : List ℕ) (small : (i : ℕ) → byte script i < 256) where
+module _ (script : List ℕ) (small : AllBytes script) where
   part-small : (p n i : ℕ) → byte (part script p n) i < 256
   part-small p n i =
       elim (decLt i n) [
@@ -65,7 +65,7 @@ on-item P (Capdu from size) f g x h k l = h from size
 on-item P (Bad code) f g x h k l = k code
 on-item P End f g x h k l = l
 
-module _ (script : List ℕ) (small : (i : ℕ) → byte script i < 256) (before : Card) (domain : ℕ) (definite : Bool) where
+module _ (script : List ℕ) (small : AllBytes script) (before : Card) (domain : ℕ) (definite : Bool) where
   pub script-capdu-holds : (from size : ℕ) (p : Progress) → Kept before p → Kept before (stepCapdu definite domain (part script from size) p)
   script-capdu-holds from size p h = capdu-holds before definite domain (part script from size) p (part-small script small from size 4) h
 
@@ -79,7 +79,7 @@ module _ (script : List ℕ) (small : (i : ℕ) → byte script i < 256) (before
       (λ code. bad-holds before code p h)
       h
 
-pub run-keeps : (script : List ℕ) → ((i : ℕ) → byte script i < 256) → (before : Card) (template : Template) (application domain : ℕ) (card : Card) → Holds before (start application) startWaiting card
+pub run-keeps : (script : List ℕ) → AllBytes script → (before : Card) (template : Template) (application domain : ℕ) (card : Card) → Holds before (start application) startWaiting card
     → Holds before (run template script application domain card .state .step .session) (run template script application domain card .state .waiting) (run template script application domain card .state .card)
 unfolding run begun started
 run-keeps script small before (Definite at end) application domain card h = run-holds script small before domain true (length script) at end (begun application card) h

@@ -31,14 +31,14 @@ module _ (out : List ℕ) (kept : ℕ) (new : List ℕ) (fits : kept + length ne
   in-buffer false = λ i. record { state = stateOf step waiting card; kept = (ap (take kept) is ∙ take-before out kept new fits kept (le-refl kept)) i; last = (ap (λ (l : List ℕ). part l kept n) is ∙ part-here out kept new fits n (sym size)) i }
 
 -- the bytes that are gathered find their room, and a script that goes on has kept no more than the rule lets it
+abbrev pub Within : Gathered → Type 0
+Within g = (g .kept + g .last ≤ roomToGather) × (goesOn (wordOf (g .step .outcome)) ≡ true → g .kept ≤ mostKept)
+
 pub gathered-within : (counts : Bool) (step : Step) (kept n : ℕ) → kept + n ≤ roomToGather → kept ≤ mostKept → (counts ≡ true → goesOn (wordOf (step .outcome)) ≡ true → kept + n ≤ mostKept)
-    → {g : Gathered} → g ≡ gatheredIn counts step kept n → (g .kept + g .last ≤ roomToGather) × (goesOn (wordOf (g .step .outcome)) ≡ true → g .kept ≤ mostKept)
+    → {g : Gathered} → g ≡ gatheredIn counts step kept n → Within g
 unfolding gatheredIn
 gathered-within counts step kept n room few rule e =
     subst Within (sym e) (on-pick Within counts _ _ (λ y. (omega arith, rule y)) (λ no. (room, λ going. few)))
-  where
-    Within : Gathered → Type 0
-    Within g = (g .kept + g .last ≤ roomToGather) × (goesOn (wordOf (g .step .outcome)) ≡ true → g .kept ≤ mostKept)
 
 module _ (before : Gathered) (waiting : List ℕ) (card : Card) (out : List ℕ) (room : before .kept ≤ length out) where
   -- the state after a command of a C-APDU, by how many bytes are kept, whether its R-APDU is, and its data

@@ -1,5 +1,5 @@
 -- "C-APDU size 4 is case 1, 5 case 2, 5+Lc case 3, 6+Lc case 4 with Le 00; else 6700."
-use Prim.Native.Nat.{ℕ, _+_, _-_, _≤_, _<_}
+use Prim.Native.Nat.{ℕ, _+_, _-_, _≤_}
 use mathlib.Core.Bool.{false, _&&_}
 use mathlib.Core.List.{List}
 use lib.ListN.{length}
@@ -7,6 +7,7 @@ use lib.Dec.{leb, eqb}
 use Rattle.octets.specs.Choice.{pick}
 use Rattle.octets.specs.Bytes.{byte}
 use Rattle.command.specs.declared.Reading.{Reading}
+use Rattle.command.specs.Checks.{OfBytes}
 
 -- the case of a C-APDU by its size, and 0 for no case's size
 unfoldable pub caseBySize : List ℕ → ℕ
@@ -42,7 +43,4 @@ capduCommand capdu =
 -- the data of a C-APDU of bytes lie in it, and its numbers are bytes
 pub record CapduFits (capdu : List ℕ) (r : Reading) : Type 0 where
   pub inside : r .from + r .count ≤ length capdu
-  pub p1 : r .command .p1 < 256
-  pub p2 : r .command .p2 < 256
-  pub p3 : r .command .p3 < 256
-  pub brief : r .count < 256
+  pub bytes : OfBytes (r .command) (r .count)

@@ -11,7 +11,7 @@ use Rattle.octets.specs.Bytes.{allZero}
 use Rattle.octets.proofs.Picks.{and-right, and-both}
 use Rattle.octets.proofs.Same.{zero-zeros}
 use Rattle.card.specs.Row.{Card}
-use Rattle.journal.specs.Entries.{Entry, headSize, usedBytes, room, encode, entriesOf}
+use Rattle.journal.specs.Entries.{Entry, headSize, usedBytes, room, encode, entriesOf, HasRoom}
 use Rattle.journal.specs.Sound.{mostScripts, entrySound, allSound, oldestIsMark, marks}
 use Rattle.journal.specs.Changes.{pushed, cutBack}
 use Rattle.journal.proofs.Entries.{Reading}
@@ -27,7 +27,7 @@ zero-drop (suc n) [] h = h
 zero-drop (suc n) (b ∷ m) h = zero-drop n m (and-right (eqb b 0) _ h)
 
 -- one more entry
-module _ (t files j : List ℕ) (p : Parts t files j) (s : ℕ) (e : Entry) (fits : headSize + usedBytes j + length (encode e) ≤ length j) where
+module _ (t files j : List ℕ) (p : Parts t files j) (s : ℕ) (e : Entry) (fits : HasRoom j (length (encode e))) where
   pub push-parts : e .place < 65536 → s ≤ mostScripts → entrySound t (length files) e ≡ true → oldestIsMark (e ∷ entriesOf j) ≡ true → marks (e ∷ entriesOf j) ≡ s → Parts t files (pushed j s e)
   unfolding room allSound
   push-parts near few sound oldest count =

@@ -10,7 +10,7 @@ use Rattle.octets.specs.Choice.{pick}
 use Rattle.octets.specs.Bytes.{part, zeros}
 use Rattle.octets.proofs.Picks.{and-left, and-right}
 use Rattle.octets.proofs.Same.{zero-true}
-use Rattle.journal.specs.Entries.{Entry, headSize, usedBytes, scriptsOnTrial, entryBytes, encode, tailAt, entryAt, noEntry, entriesOf}
+use Rattle.journal.specs.Entries.{Entry, headSize, usedBytes, scriptsOnTrial, entryBytes, encode, tailAt, entryAt, readable, noEntry, entriesOf}
 use Rattle.journal.specs.Sound.{formSound, entrySound, allSound}
 use Rattle.journal.specs.Changes.{bytesTaken, cutBack}
 use Rattle.journal.proofs.Entries.{Reading, none, stop, more, before, read-all}
@@ -26,29 +26,31 @@ no-entry : (t : List ℕ) (files : ℕ) → entrySound t files noEntry ≡ false
 unfolding entrySound formSound noEntry pick
 no-entry t files = refl
 
--- sound entries take the bytes that they were read from, and these bytes are theirs
 module _ (t : List ℕ) (files : ℕ) (j : List ℕ) where
-  pub taken-all : {u : ℕ} {es : List Entry} → Reading j u es → headSize + u ≤ length j → allSound t files es ≡ true → bytesTaken es ≡ u
-  unfolding bytesTaken allSound
-  taken-all none fits h = refl
-  taken-all (stop p r) fits h = absurd (false≢true (sym (no-entry t files) ∙ and-left _ _ h))
-  taken-all (more {u} {es} r rest) fits h =
+  -- what holds of no entries, and of one more behind those of which it holds, holds of all sound entries that were read
+  on-sound : (P : ℕ → List Entry → Type 0) → P 0 [] → ((u : ℕ) (es : List Entry) → readable j u ≡ true → headSize + u ≤ length j → P (before j u) es → P u (entryAt j u ∷ es))
+      → {u : ℕ} {es : List Entry} → Reading j u es → headSize + u ≤ length j → allSound t files es ≡ true → P u es
+  unfolding allSound
+  on-sound P start one none fits h = start
+  on-sound P start one (stop p r) fits h = absurd (false≢true (sym (no-entry t files) ∙ and-left _ _ h))
+  on-sound P start one (more {u} {es} r rest) fits h =
       let b = begins j u r in
-      let l = old-length j u r fits in
-      let x = taken-all rest (omega arith) (and-right (entrySound t files (entryAt j u)) _ h) in
-      omega arith
+      one u es r fits (on-sound P start one rest (omega arith) (and-right (entrySound t files (entryAt j u)) _ h))
+
+  -- they take the bytes that they were read from, and these bytes are theirs
+  pub taken-all : {u : ℕ} {es : List Entry} → Reading j u es → headSize + u ≤ length j → allSound t files es ≡ true → bytesTaken es ≡ u
+  unfolding bytesTaken
+  taken-all = on-sound (λ u es. bytesTaken es ≡ u) refl (λ u es r fits x. let b = begins j u r in let l = old-length j u r fits in omega arith)
 
   pub encoded : {u : ℕ} {es : List Entry} → Reading j u es → headSize + u ≤ length j → allSound t files es ≡ true → part j headSize u ≡ encodeAll es
-  unfolding encodeAll allSound
-  encoded none fits h = refl
-  encoded (stop p r) fits h = absurd (false≢true (sym (no-entry t files) ∙ and-left _ _ h))
-  encoded (more {u} {es} r rest) fits h =
-      let b = begins j u r in
+  unfolding encodeAll
+  encoded =
+      on-sound (λ u es. part j headSize u ≡ encodeAll es) refl
+      (λ u es r fits x.
       let n = entryBytes (tailAt j u .count) in
-      let x = encoded rest (omega arith) (and-right (entrySound t files (entryAt j u)) _ h) in
-      ap (part j headSize) (sym b) ∙ take-add (before j u) n (drop headSize j)
+      ap (part j headSize) (sym (begins j u r)) ∙ take-add (before j u) n (drop headSize j)
       ∙ (λ i. x i ++ take n (drop-drop (before j u) headSize j i))
-      ∙ ap (λ (bs : List ℕ). encodeAll es ++ bs) (entry-bytes j u r fits)
+      ∙ ap (λ (bs : List ℕ). encodeAll es ++ bs) (entry-bytes j u r fits))
 
 -- all of a sound journal's: cut back to them it is itself
 module _ (t files j : List ℕ) (p : Parts t files j) where

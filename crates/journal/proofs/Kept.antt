@@ -9,12 +9,12 @@ use Rattle.octets.specs.Choice.{pick}
 use Rattle.octets.specs.Bytes.{byte}
 use Rattle.card.specs.Row.{Card}
 use Rattle.card.specs.Sound.{soundTable}
-use Rattle.journal.specs.Entries.{Entry, scriptsOnTrial, entryBytes, isMark, mark, entriesOf}
+use Rattle.journal.specs.Entries.{Entry, scriptsOnTrial, entryBytes, isMark, mark, entriesOf, HasRoom}
 use Rattle.journal.specs.Sound.{mostScripts, formSound, entrySound, allSound, lastIsMark, oldestIsMark, marks, soundCard}
-use Rattle.journal.specs.Changes.{Write, withJournal, marked, kindFor, entryFor, write, perform, cost, restore, sinceMark, behindMark, bytesTaken, takenBack, confirmed}
+use Rattle.journal.specs.Changes.{Write, withJournal, marked, withMark, kindFor, entryFor, write, perform, cost, restore, sinceMark, behindMark, bytesTaken, takenBack, confirmed}
 use Rattle.journal.proofs.Entries.{none, read-all}
 use Rattle.journal.proofs.Memories.{put, after, write-put, write-journal, entry-no-mark}
-use Rattle.journal.proofs.Pushed.{HasRoom, mark-fits}
+use Rattle.journal.proofs.Pushed.{mark-fits}
 use Rattle.journal.proofs.Parts.{used-inside, card-table, card-parts, card-whole}
 use Rattle.journal.proofs.Encoded.{sound-taken}
 use Rattle.journal.proofs.Behind.{marks-other, behind-sound, behind-oldest, behind-marks, behind-reading, behind-less}
@@ -25,11 +25,11 @@ use Rattle.journal.proofs.Changed.{push-parts, cut-parts, parts-alike}
 
 -- a mark, and a confirmation
 module _ (c : Card) (sound : soundCard c ≡ true) where
-  pub mark-sound : HasRoom (c .journal) (entryBytes 0) → scriptsOnTrial (c .journal) < mostScripts → soundCard (withJournal c (marked (c .journal))) ≡ true
+  pub mark-sound : HasRoom (c .journal) (entryBytes 0) → scriptsOnTrial (c .journal) < mostScripts → soundCard (withMark c) ≡ true
   unfolding withJournal marked mark entrySound formSound pick oldestIsMark lastIsMark marks
   mark-sound left few =
       let p = card-parts c sound in
-      card-whole (withJournal c (marked (c .journal))) (card-table c sound)
+      card-whole (withMark c) (card-table c sound)
       (push-parts (c .table) (c .files) (c .journal) p (scriptsOnTrial (c .journal) + 1) mark (mark-fits (c .journal) left) (omega arith) (omega arith) refl (p .oldest) (omega arith))
 
   pub confirmed-sound : soundCard (confirmed c) ≡ true

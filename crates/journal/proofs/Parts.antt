@@ -12,7 +12,7 @@ use Rattle.octets.proofs.Picks.{and-left, and-right, and-both}
 use Rattle.octets.proofs.Same.{same-true, same-refl}
 use Rattle.card.specs.Row.{Card}
 use Rattle.card.specs.Sound.{soundTable}
-use Rattle.journal.specs.Entries.{headSize, head, usedBytes, scriptsOnTrial, room, entriesOf}
+use Rattle.journal.specs.Entries.{headSize, head, usedBytes, scriptsOnTrial, room, HasRoom, entriesOf}
 use Rattle.journal.specs.Sound.{journalLength, mostScripts, headSound, allSound, oldestIsMark, marks, entriesSound, soundJournal, soundCard}
 
 -- what a journal's soundness promises beside a table and a file memory
@@ -58,6 +58,11 @@ module _ (t files j : List ℕ) where
 pub used-inside : (t files j : List ℕ) → Parts t files j → headSize + usedBytes j ≤ length j
 unfolding room
 used-inside t files j p = omega (arith, p .size, p .used)
+
+-- and what its room has left is room behind them
+pub room-left : (t files j : List ℕ) (n : ℕ) → Parts t files j → usedBytes j + n ≤ room j → HasRoom j n
+unfolding room
+room-left t files j n p left = omega (arith, p .size)
 
 module _ (c : Card) where
   pub card-table : soundCard c ≡ true → soundTable (c .table) (c .files) ≡ true

@@ -8,7 +8,7 @@ use lib.ListN.{length, take, drop}
 use Rattle.octets.specs.Bytes.{byte, part, bytes2, overwrite}
 use Rattle.octets.proofs.Writes.{part-part, part-before, part-here, write-length, drop-after}
 use Rattle.octets.proofs.Numbers.{num-of-part, byte-part}
-use Rattle.journal.specs.Entries.{Entry, headSize, head, usedBytes, scriptsOnTrial, room, encode, entryBytes, mark, entriesOf}
+use Rattle.journal.specs.Entries.{Entry, headSize, head, usedBytes, scriptsOnTrial, HasRoom, encode, entryBytes, mark, entriesOf}
 use Rattle.journal.specs.Changes.{pushedAt, pushed, marked}
 use Rattle.journal.proofs.Entries.{read-all, read-only, same-reading}
 use Rattle.journal.proofs.Tails.{encode-length, next-reading}
@@ -28,7 +28,7 @@ module _ (m : List ℕ) (u s f : ℕ) (there : part m 0 headSize ≡ head u s f)
   head-scripts = sym (byte-part m 0 headSize 2 (omega arith)) ∙ ap (λ (k : List ℕ). byte k 2) there
 
 -- one more entry
-module _ (j : List ℕ) (s : ℕ) (e : Entry) (fits : headSize + usedBytes j + length (encode e) ≤ length j) where
+module _ (j : List ℕ) (s : ℕ) (e : Entry) (fits : HasRoom j (length (encode e))) where
   written-length : length (overwrite j (headSize + usedBytes j) (encode e)) ≡ length j
   written-length = write-length j (headSize + usedBytes j) (encode e) fits
 
@@ -92,7 +92,7 @@ pub record Grown (j k : List ℕ) (s : ℕ) (e : Entry) : Type 0 where
   pub used : usedBytes k ≡ usedBytes j + entryBytes (length (e .old))
   pub entries : entriesOf k ≡ e ∷ entriesOf j
 
-pub pushed-grown : (j : List ℕ) (s : ℕ) (e : Entry) → headSize + usedBytes j + length (encode e) ≤ length j → length j ≤ 65535 → e .place < 65536 → Grown j (pushed j s e) s e
+pub pushed-grown : (j : List ℕ) (s : ℕ) (e : Entry) → HasRoom j (length (encode e)) → length j ≤ 65535 → e .place < 65536 → Grown j (pushed j s e) s e
 pushed-grown j s e fits short near =
     record {
       size = pushed-length j s e fits;
@@ -102,15 +102,11 @@ pushed-grown j s e fits short near =
       entries = pushed-entries j s e fits short near;
     }
 
--- a journal has room for so many bytes more
-abbrev pub HasRoom : List ℕ → ℕ → Type 0
-HasRoom j n = usedBytes j + n ≤ room j
-
 -- one more mark
 module _ (j : List ℕ) (left : HasRoom j (entryBytes 0)) where
-  pub mark-fits : headSize + usedBytes j + length (encode mark) ≤ length j
-  unfolding room mark
-  mark-fits = rw (encode-length mark) (omega arith)
+  pub mark-fits : HasRoom j (length (encode mark))
+  unfolding mark
+  mark-fits = rw (encode-length mark) left
 
   pub marked-scripts : scriptsOnTrial (marked j) ≡ scriptsOnTrial j + 1
   unfolding marked

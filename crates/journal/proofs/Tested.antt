@@ -10,7 +10,7 @@ use lib.Dec.{leb, eqb}
 use lib.ListN.{length, take, drop, length-drop}
 use lib.Seq.{drop-cons, take-all}
 use Rattle.octets.specs.Choice.{pick}
-use Rattle.octets.specs.Bytes.{byte, part, numAt, bytes2, allZero, same}
+use Rattle.octets.specs.Bytes.{byte, AllBytes, part, numAt, bytes2, allZero, same}
 use Rattle.octets.proofs.Numbers.{byte-part}
 use Rattle.journal.specs.declared.Tail.{Tail}
 use Rattle.journal.specs.Entries.{Entry, headSize, head, tail, entryBytes, marksStart, tailBytes, tailIn, tailAt, formed, oldPlace, entryAt, readable, noEntry, entriesBack, entriesOf, usedBytes, scriptsOnTrial, room}
@@ -34,7 +34,7 @@ unfolding formed same tail tailIn numAt bytes2
 formed-eight k a p q n m b c hp hq hn hm =
     rw (eq-eqb k k refl, eq-eqb p ((p * 256 + q) / 256 % 256) (omega arith), eq-eqb q ((p * 256 + q) % 256) (omega arith), eq-eqb n ((n * 256 + m) / 256 % 256) (omega arith), eq-eqb m ((n * 256 + m) % 256) (omega arith), and-true (eqb c 0))
 
-pub formed-test : (bs : List ℕ) → length bs ≡ 8 → ((i : ℕ) → byte bs i < 256) → (eqb (byte bs 1) 0 && (eqb (byte bs 6) 0 && eqb (byte bs 7) 0)) ≡ formed bs
+pub formed-test : (bs : List ℕ) → length bs ≡ 8 → AllBytes bs → (eqb (byte bs 1) 0 && (eqb (byte bs 6) 0 && eqb (byte bs 7) 0)) ≡ formed bs
 unfolding bytesFrom
 formed-test bs l small =
     sym (ap formed (sym (take-all 8 bs (omega arith)) ∙ byte-by-byte bs 0 8 (omega arith))
@@ -115,7 +115,7 @@ module _ (t f j : List ℕ) where
   unfolding soundJournal
   journal-short h = rw (ne-eqb (length j) journalLength h)
 
-  pub journal-test : length j ≡ journalLength → ((i : ℕ) → byte j i < 256) → soundJournal t f j ≡ journalTests t f j
+  pub journal-test : length j ≡ journalLength → AllBytes j → soundJournal t f j ≡ journalTests t f j
   unfolding soundJournal headSound room usedBytes scriptsOnTrial numAt bytesFrom
   journal-test long small =
       let hd : List ℕ = head (usedBytes j) (scriptsOnTrial j) 0 in

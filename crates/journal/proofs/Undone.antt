@@ -8,12 +8,12 @@ use lib.ListN.{length}
 use Rattle.octets.specs.Choice.{pick}
 use Rattle.octets.specs.Bytes.{part, zeros}
 use Rattle.card.specs.Row.{Card}
-use Rattle.journal.specs.Entries.{Entry, headSize, head, usedBytes, scriptsOnTrial, room, entryBytes, mark, entriesOf}
+use Rattle.journal.specs.Entries.{Entry, headSize, head, usedBytes, scriptsOnTrial, entryBytes, mark, entriesOf, HasRoom}
 use Rattle.journal.specs.Sound.{soundCard}
-use Rattle.journal.specs.Changes.{Write, withJournal, marked, entryFor, write, perform, cost, memoryFor, restoreOne, restore, sinceMark, behindMark, bytesTaken, cutBack, takenBack}
+use Rattle.journal.specs.Changes.{Write, withJournal, marked, withMark, entryFor, write, perform, cost, memoryFor, restoreOne, restore, sinceMark, behindMark, bytesTaken, cutBack, takenBack}
 use Rattle.journal.proofs.Entries.{part-same}
 use Rattle.journal.proofs.Memories.{memory-beside, put, put-beside, entry-no-mark, restore-write}
-use Rattle.journal.proofs.Pushed.{HasRoom, marked-grown}
+use Rattle.journal.proofs.Pushed.{marked-grown}
 use Rattle.journal.proofs.Parts.{card-parts}
 use Rattle.journal.proofs.Encoded.{sound-cut}
 use Rattle.journal.proofs.Behind.{since-other, behind-other, behind-less}
@@ -60,7 +60,7 @@ pub back-perform : (ws : List Write) (c : Card) → AllFit ws c → Writable c �
 back-perform = perform-same takenBack back-write
 
 -- a mark
-pub back-mark : (c : Card) → soundCard c ≡ true → HasRoom (c .journal) (entryBytes 0) → takenBack (withJournal c (marked (c .journal))) ≡ c
+pub back-mark : (c : Card) → soundCard c ≡ true → HasRoom (c .journal) (entryBytes 0) → takenBack (withMark c) ≡ c
 unfolding withJournal restore sinceMark behindMark pick mark
 back-mark c sound left =
     let ok = sound-writable c sound in
@@ -74,8 +74,8 @@ back-mark c sound left =
     ∙ (λ i. withJournal c (sound-cut (c .table) (c .files) (c .journal) (card-parts c sound) i))
 
 -- a run: a mark, and then writes
-pub back-run : (ws : List Write) (c : Card) → soundCard c ≡ true → AllFit ws c → HasRoom (c .journal) (entryBytes 0 + cost ws) → takenBack (perform ws (withJournal c (marked (c .journal)))) ≡ c
-unfolding withJournal room mark
+pub back-run : (ws : List Write) (c : Card) → soundCard c ≡ true → AllFit ws c → HasRoom (c .journal) (entryBytes 0 + cost ws) → takenBack (perform ws (withMark c)) ≡ c
+unfolding withJournal mark
 back-run ws c sound fits left =
     let ok = sound-writable c sound in
     let k = marked (c .journal) in

@@ -8,12 +8,12 @@ use lib.ListN.{length}
 use Rattle.octets.proofs.Writes.{part-length}
 use Rattle.card.specs.Row.{Card}
 use Rattle.card.proofs.Promises.{few-bytes, few-entries, whole-entries}
-use Rattle.journal.specs.Entries.{headSize, usedBytes, scriptsOnTrial, room, entryBytes, encode, mark, entriesOf}
+use Rattle.journal.specs.Entries.{headSize, usedBytes, scriptsOnTrial, entryBytes, encode, mark, entriesOf, HasRoom}
 use Rattle.journal.specs.Sound.{soundCard}
-use Rattle.journal.specs.Changes.{Memory, fileMemory, tableMemory, Write, memoryOf, withJournal, marked, entryFor, write, perform, cost, bytesTaken}
+use Rattle.journal.specs.Changes.{Memory, fileMemory, tableMemory, Write, memoryOf, withJournal, marked, withMark, entryFor, write, perform, cost, bytesTaken}
 use Rattle.journal.proofs.Tails.{encode-length}
 use Rattle.journal.proofs.Memories.{memory-beside, put, put-length, after, write-put, write-journal}
-use Rattle.journal.proofs.Pushed.{HasRoom, Grown, pushed-grown, marked-grown}
+use Rattle.journal.proofs.Pushed.{Grown, pushed-grown, marked-grown}
 use Rattle.journal.proofs.Parts.{used-inside, card-table, card-parts}
 use Rattle.journal.proofs.Encoded.{sound-taken}
 
@@ -42,8 +42,8 @@ module _ (c : Card) (sound : soundCard c ≡ true) where
       }
 
 -- it keeps it behind a mark
-pub mark-writable : (c : Card) → Writable c → HasRoom (c .journal) (entryBytes 0) → Writable (withJournal c (marked (c .journal)))
-unfolding room withJournal bytesTaken mark
+pub mark-writable : (c : Card) → Writable c → HasRoom (c .journal) (entryBytes 0) → Writable (withMark c)
+unfolding withJournal bytesTaken mark
 mark-writable c ok left =
     let g = marked-grown (c .journal) left (ok .short) in
     record {
@@ -69,9 +69,8 @@ module _ (w : Write) (c : Card) (fits : Fits w c) where
 
   -- and the journal's room
   module _ (ok : Writable c) (left : HasRoom (c .journal) (entryBytes (length (w .new)))) where
-    pub entry-fits : headSize + usedBytes (c .journal) + length (encode (entryFor w c)) ≤ length (c .journal)
-    unfolding room
-    entry-fits = rw (encode-length (entryFor w c), old-takes) (omega arith)
+    pub entry-fits : HasRoom (c .journal) (length (encode (entryFor w c)))
+    entry-fits = rw (encode-length (entryFor w c), old-takes) left
 
     pub entry-near : entryFor w c .place < 65536
     unfolding entryFor
@@ -88,7 +87,7 @@ module _ (w : Write) (c : Card) (fits : Fits w c) where
     write-used = rw old-takes at (write-grown .used)
 
     pub write-writable : Writable (write w c)
-    unfolding room bytesTaken
+    unfolding bytesTaken
     write-writable =
         record {
           used = rw (write-used, write-grown .size) (omega arith);
@@ -120,7 +119,7 @@ module _ (w : Write) (ws : List Write) (c : Card) (ok : Writable c) (left : HasR
   room-first = omega arith
 
   pub room-next : Fits w c → HasRoom (write w c .journal) (cost ws)
-  unfolding cost room
+  unfolding cost
   room-next fits = rw (write-used w c fits ok room-first, write-grown w c fits ok room-first .size) (omega arith)
 
 -- what one write leaves the same, a list of writes does

@@ -47,6 +47,10 @@ pushed j scripts e = pushedAt j (usedBytes j) scripts e
 unfoldable pub marked : List ℕ → List ℕ
 marked j = pushed j (scriptsOnTrial j + 1) mark
 
+-- the card that an accepted run's script starts on: it has the script's mark
+abbrev pub withMark : Card → Card
+withMark c = withJournal c (marked (c .journal))
+
 -- the kind of entry that holds a memory's old bytes
 unfoldable pub kindFor : Memory → ℕ
 kindFor fileMemory = holdsFileBytes

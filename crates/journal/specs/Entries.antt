@@ -1,5 +1,5 @@
 -- "The journal has 2,048 bytes: 0-1 used bytes U (at most 2,044), 2 scripts on trial (0 to 16), 3 zero, then entries".
-use Prim.Native.Nat.{ℕ, zero, suc, _+_, _-_}
+use Prim.Native.Nat.{ℕ, zero, suc, _+_, _-_, _≤_}
 use mathlib.Core.Bool.{Bool, true, false, _&&_}
 use mathlib.Core.List.{List, [], _∷_, _++_}
 use lib.ListN.{length}
@@ -25,6 +25,10 @@ scriptsOnTrial j = byte j 2
 -- the most that U can be: what is left of the journal behind its head
 unfoldable pub room : List ℕ → ℕ
 room j = length j - headSize
+
+-- a journal has room for n bytes more, behind its used ones
+abbrev pub HasRoom : List ℕ → ℕ → Type 0
+HasRoom j n = headSize + usedBytes j + n ≤ length j
 
 -- "An entry is n old bytes and an 8-byte tail"
 pub record Entry : Type 0 where

@@ -3,7 +3,7 @@ use crate::HEAD_SIZE;
 use crate::TAIL_SIZE;
 use crate::Tail;
 ghost use mathlib.Core.Path.{_≡_};
-ghost use Prim.Native.Nat.{_+_, _-_, _≤_, _<_};
+ghost use Prim.Native.Nat.{_+_, _≤_, _<_};
 ghost use lib.ListN.{length};
 ghost use Rattle.journal.specs.Entries.{usedBytes, scriptsOnTrial, room, tailIn, tailAt, formed, readable};
 

@@ -19,26 +19,32 @@ module _ {A : Type 0} where
   unfolding pick
   pick-false b x y e = rw e
 
+  pub yes : (b : Bool) {r x : A} (y : A) → b ≡ true → r ≡ x → r ≡ pick b x y
+  yes b {x = x} y h e = e ∙ sym (pick-true b x y h)
+
+  pub no : (b : Bool) {r : A} (x : A) {y : A} → b ≡ false → r ≡ y → r ≡ pick b x y
+  no b x {y} h e = e ∙ sym (pick-false b x y h)
+
   pub lt-yes : (a b : ℕ) {r x : A} (y : A) → a < b → r ≡ x → r ≡ pick (ltb a b) x y
-  lt-yes a b {x = x} y h e = e ∙ sym (pick-true (ltb a b) x y (lt-ltb a b h))
+  lt-yes a b y h = yes (ltb a b) y (lt-ltb a b h)
 
   pub lt-no : (a b : ℕ) {r : A} (x : A) {y : A} → b ≤ a → r ≡ y → r ≡ pick (ltb a b) x y
-  lt-no a b x {y} h e = e ∙ sym (pick-false (ltb a b) x y (le-ltb a b h))
+  lt-no a b x h = no (ltb a b) x (le-ltb a b h)
 
   pub le-yes : (a b : ℕ) {r x : A} (y : A) → a ≤ b → r ≡ x → r ≡ pick (leb a b) x y
-  le-yes a b {x = x} y h e = e ∙ sym (pick-true (leb a b) x y (le-leb a b h))
+  le-yes a b y h = yes (leb a b) y (le-leb a b h)
 
   pub le-no : (a b : ℕ) {r : A} (x : A) {y : A} → b < a → r ≡ y → r ≡ pick (leb a b) x y
-  le-no a b x {y} h e = e ∙ sym (pick-false (leb a b) x y (lt-leb a b h))
+  le-no a b x h = no (leb a b) x (lt-leb a b h)
 
   pub eq-yes : (a b : ℕ) {r x : A} (y : A) → a ≡ b → r ≡ x → r ≡ pick (eqb a b) x y
-  eq-yes a b {x = x} y h e = e ∙ sym (pick-true (eqb a b) x y (eq-eqb a b h))
+  eq-yes a b y h = yes (eqb a b) y (eq-eqb a b h)
 
   pub eq-no : (a b : ℕ) {r : A} (x : A) {y : A} → (a ≡ b → ⊥) → r ≡ y → r ≡ pick (eqb a b) x y
-  eq-no a b x {y} h e = e ∙ sym (pick-false (eqb a b) x y (ne-eqb a b h))
+  eq-no a b x h = no (eqb a b) x (ne-eqb a b h)
 
   pub eq-other : (a b k : ℕ) {r : A} (x : A) {y : A} → a ≡ k → eqb k b ≡ false → r ≡ y → r ≡ pick (eqb a b) x y
-  eq-other a b k x {y} h f e = e ∙ sym (pick-false (eqb a b) x y (rw h f))
+  eq-other a b k x h f = no (eqb a b) x (rw h f)
 
 pub ruleset picks = (lt-yes, lt-no, le-yes, le-no, eq-yes, eq-no, eq-other)
 

@@ -25,6 +25,10 @@ pub part-part : (m : List ℕ) (p n i k : ℕ) → i + k ≤ n → part (part m 
 part-part m p n i k h =
     part-cut i k (part m p n) ∙ ap (drop i) (take-take (i + k) n (drop p m) h) ∙ sym (part-cut i k (drop p m)) ∙ ap (take k) (drop-drop i p m)
 
+-- and a part of a part, lent from the whole
+pub lent-part : (m : List ℕ) (p n i k : ℕ) → i + k ≤ n → part m (p + i) (p + i + k - (p + i)) ≡ part (part m p n) i k
+lent-part m p n i k h = part-lent m (p + i) k ∙ sym (part-part m p n i k h)
+
 pub write-none : (m : List ℕ) (p : ℕ) → overwrite m p [] ≡ m
 unfolding overwrite
 write-none m p = rw (add-zero, take-append-drop)

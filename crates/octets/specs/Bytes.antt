@@ -1,5 +1,5 @@
 -- Runs of bytes as lists of numbers: reading, writing and comparing them. "Numbers are big-endian."
-use Prim.Native.Nat.{ℕ, zero, suc, _+_, _*_, _/_, _%_}
+use Prim.Native.Nat.{ℕ, zero, suc, _+_, _*_, _/_, _%_, _<_}
 use mathlib.Core.Bool.{Bool, true, false, _&&_, _||_}
 use mathlib.Core.List.{List, [], _∷_, _++_}
 use lib.ListN.{length, getD, take, drop, replicate}
@@ -8,6 +8,10 @@ use lib.Dec.{eqb}
 -- the byte at a place, and 0 past the end
 abbrev pub byte : List ℕ → ℕ → ℕ
 byte m at = getD m at 0
+
+-- a run's numbers are bytes
+abbrev pub AllBytes : List ℕ → Type 0
+AllBytes m = (i : ℕ) → byte m i < 256
 
 -- the n bytes from a place on, or as many of them as there are
 abbrev pub part : List ℕ → ℕ → ℕ → List ℕ

@@ -8,7 +8,7 @@ use Rattle.card.specs.Sound.{recordCount}
 use Rattle.card.specs.Records.{recordPlace, recordOffset, oldestPlace}
 use Rattle.card.proofs.Places.{place-below}
 use Rattle.command.specs.Files.{Recorded}
-use Rattle.command.proofs.Placed.{offset-inside}
+use Rattle.card.proofs.Places.{offset-inside}
 use Rattle.plan.specs.declared.Change.{Change}
 use Rattle.plan.specs.declared.Change.the-variants.{Nothing}
 use Rattle.plan.specs.Decisions.{RecordFits, Fits, newestOf}

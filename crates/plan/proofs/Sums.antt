@@ -12,7 +12,7 @@ use lib.Dec.{ltb}
 use borrow.Author.Tests.{lt-ltb, le-ltb}
 use Rattle.octets.specs.Bytes.{part, value, bytesOf, overwrite}
 use Rattle.octets.proofs.Picks.{pick-true, pick-false}
-use Rattle.octets.proofs.Writes.{part-lent, part-length, write-two}
+use Rattle.octets.proofs.Writes.{part-lent, lent-part, part-length, write-two}
 use Rattle.octets.proofs.Numbers.{bytesOf-length}
 use Rattle.card.specs.declared.Row.{Row}
 use Rattle.card.specs.Records.{recordOffset}
@@ -21,7 +21,6 @@ use Rattle.command.specs.Instructions as ins
 use Rattle.command.specs.Outcomes.{Plan, failed}
 use Rattle.command.specs.Files.{File, recordBytes, sum, writeIn, newRecord}
 use Rattle.command.specs.Checks.{checkWord, sumFits}
-use Rattle.command.proofs.Placed.{lent-part}
 use Rattle.plan.specs.declared.Change.the-variants.{SumRecord}
 use Rattle.plan.specs.Decisions.{recordWrites, writesOf, newestOf, summed}
 

@@ -7,17 +7,17 @@ use journal::read::used_bytes;
 use journal::write::write_file;
 use journal::write::write_table;
 ghost use mathlib.Core.Path.{_≡_};
-ghost use Prim.Native.Nat.{_+_, _≤_, _<_};
+ghost use Prim.Native.Nat.{_+_, _<_};
 ghost use lib.ListN.{length};
 ghost use Rattle.card.specs.Row.{lent};
-ghost use Rattle.journal.specs.Entries.{usedBytes, room};
+ghost use Rattle.journal.specs.Entries.{HasRoom};
 ghost use Rattle.journal.specs.Changes as changes;
 ghost use Rattle.command.specs.Commands.{carriedOut};
 ghost use Rattle.plan.specs.Decisions.{recordWrites, writesOf, planOf, RecordFits, Fits, movedTo};
 
 // A new record of a cyclic file: its bytes at the oldest place, then the newest place.
 fn write_record(table: &mut [u8], files: &mut [u8], journal: &mut [u8], r: NewRecord, new: &[u8])
-    requires { ⌜ RecordFits (length (now table)) (length (now files)) r × (length (now new) ≡ r .«record») × (length (now journal) < 65536) × (4 + usedBytes (now journal) + (8 + r .«record» + 9) ≤ length (now journal)) ⌝ }
+    requires { ⌜ RecordFits (length (now table)) (length (now files)) r × (length (now new) ≡ r .«record») × (length (now journal) < 65536) × HasRoom (now journal) (8 + r .«record» + 9) ⌝ }
     ensures { λ _. ⌜ lent (now (table .exit)) (now (files .exit)) (now (journal .exit)) ≡ changes.perform (recordWrites r (now (new .entry))) (lent (now (table .entry)) (now (files .entry)) (now (journal .entry))) ⌝ }
 {
     let used = used_bytes(journal);
@@ -52,7 +52,7 @@ pub fn perform(
     files: &mut [u8],
     journal: &mut [u8],
 )
-    requires { ⌜ Fits (length (now table)) (length (now files)) (length (now «data»)) change × (length (now made) ≡ 255) × (4 ≤ length (now journal)) × (length (now journal) < 65536) × (usedBytes (now journal) + changes.cost (writesOf change (now «data») (now made)) ≤ room (now journal)) ⌝ }
+    requires { ⌜ Fits (length (now table)) (length (now files)) (length (now «data»)) change × (length (now made) ≡ 255) × (length (now journal) < 65536) × HasRoom (now journal) (changes.cost (writesOf change (now «data») (now made))) ⌝ }
     ensures { λ _. ⌜ lent (now (table .exit)) (now (files .exit)) (now (journal .exit)) ≡ changes.perform (writesOf change (now («data» .entry)) (now (made .entry))) (lent (now (table .entry)) (now (files .entry)) (now (journal .entry))) ⌝ }
 {
     match change {
@@ -88,7 +88,7 @@ pub fn carry_out(
     files: &mut [u8],
     journal: &mut [u8],
 ) -> Step
-    requires { ⌜ Fits (length (now table)) (length (now files)) (length (now «data»)) (d .change) × (length (now made) ≡ 255) × (length (now waiting) ≡ 255) × (4 ≤ length (now journal)) × (length (now journal) < 65536) × (usedBytes (now journal) + changes.cost (planOf d (now «data») (now made) .writes) ≤ room (now journal)) × (count < 65535) ⌝ }
+    requires { ⌜ Fits (length (now table)) (length (now files)) (length (now «data»)) (d .change) × (length (now made) ≡ 255) × (length (now waiting) ≡ 255) × (length (now journal) < 65536) × HasRoom (now journal) (changes.cost (planOf d (now «data») (now made) .writes)) × (count < 65535) ⌝ }
     ensures { λ r. ⌜ (movedTo (r .session) (r .outcome) (now (waiting .exit)) (lent (now (table .exit)) (now (files .exit)) (now (journal .exit)))
         ≡ carriedOut (planOf d (now («data» .entry)) (now (made .entry))) (now (waiting .entry)) (lent (now (table .entry)) (now (files .entry)) (now (journal .entry))))
         × (r .count ≡ count + 1) ⌝ }

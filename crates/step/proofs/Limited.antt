@@ -10,7 +10,7 @@ use borrow.Author.Tests.{le-ltb}
 use Rattle.octets.specs.Choice.{pick}
 use Rattle.octets.proofs.Picks.{pick-true, pick-false}
 use Rattle.card.specs.Row.{Card}
-use Rattle.journal.specs.Entries.{usedBytes, room}
+use Rattle.journal.specs.Entries.{HasRoom}
 use Rattle.journal.specs.Changes.{cost}
 use Rattle.journal.proofs.Parts.{card-table}
 use Rattle.session.specs.declared.Session.{Session}
@@ -59,7 +59,7 @@ module _ (kept : ℕ) (counts : Bool) (s : Session) (few : kept ≤ mostKept) wh
         record {
           same = same ∙ sym e;
           fits = none-fits _ _ _ none;
-          journal = let h = told .journal in subst (λ (p : Plan). usedBytes (card .journal) + cost (p .writes) ≤ room (card .journal)) (sym e) (omega arith);
+          journal = let h = told .journal in subst (λ (p : Plan). HasRoom (card .journal) (cost (p .writes))) (sym e) (omega arith);
         }
 
     pub within : passes kept counts (dataCount (d .outcome)) ≡ false → Decided card «data» bytes (limited kept counts s plan) d
@@ -69,6 +69,6 @@ module _ (kept : ℕ) (counts : Bool) (s : Session) (few : kept ≤ mostKept) wh
 pub decided-few : (format : Format) (domain : ℕ) (c : Command) («data» : List ℕ) (s : Session) (card : Card) → Ready card s c (length «data») → (bytes : List ℕ) (d : Decision) → Decided card «data» bytes (planned (situation format domain c «data» s card)) d → dataCount (d .outcome) ≤ 256
 unfolding planOf
 decided-few format domain c «data» s card h bytes d told =
-    let brief = h .brief in
+    let brief = h .bytes .brief in
     subst (λ (p : Plan). dataCount (p .outcome) ≤ 256) (sym (told .same))
-    (data-few _ _ (planned-fit format domain c «data» s card (card-table card (h .sound)) (h .good) (omega arith) .outcome (h .p3)))
+    (data-few _ _ (planned-fit format domain c «data» s card (card-table card (h .sound)) (h .good) (omega arith) .outcome (h .bytes .p3)))

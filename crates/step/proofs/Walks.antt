@@ -66,6 +66,10 @@ abbrev pub Back : ℕ → Bool → Fml → Fml → Fml → Fml → Fml → Fml
 Back kept counts P Q R S T = fsep (usize .own kept (vint w64 kept ∷ [])) (fsep (bool .own counts (vbool counts ∷ [])) (fsep P (fsep Q (fsep R (fsep S (fsep T ftrue))))))
 
 module _ (made waiting table files journal : RefT (List ℕ)) (ys : Bytes) where
+  -- the last bytes are as many as there were
+  abbrev pub AsMany : Type 0
+  AsMany = (length (ys .0) ≡ length (now made)) × ((length (ys .1 .0) ≡ length (now waiting)) × ((length (ys .1 .1 .0) ≡ length (now table)) × ((length (ys .1 .1 .1 .0) ≡ length (now files)) × ((length (ys .1 .1 .1 .1 .0) ≡ length (now journal)) × Unit {0}))))
+
   -- the last bytes, those of the journal first
   abbrev pub finals : {M : Type 1} {𝓤 : URA M} → List (Item 𝓤) → List (Item 𝓤)
   finals Γ = ‵ (finally u8 (journal .name) (ys .1 .1 .1 .1 .0)) ∷ ‵ (finally u8 (files .name) (ys .1 .1 .1 .0)) ∷ ‵ (finally u8 (table .name) (ys .1 .1 .0)) ∷ ‵ (finally u8 (waiting .name) (ys .1 .0)) ∷ ‵ (finally u8 (made .name) (ys .0)) ∷ Γ
@@ -73,7 +77,7 @@ module _ (made waiting table files journal : RefT (List ℕ)) (ys : Bytes) where
   abbrev last : RefT (List ℕ) → List ℕ → Fml → Fml
   last x zs P = fsep (fsep (finally u8 (x .name) zs) (feq ℕ (length zs) (length (now x)))) P
 
-  -- the same as a callee says it: there are as many as there were
+  -- the same as a callee says it, with how many there are
   abbrev pub Finals : Fml
   Finals = last made (ys .0) (last waiting (ys .1 .0) (last table (ys .1 .1 .0) (last files (ys .1 .1 .1 .0) (last journal (ys .1 .1 .1 .1 .0) ftrue))))
 
@@ -91,7 +95,7 @@ module _ {M : Type 1} {𝓤 : URA M} {H : Heap 𝓤} {A : Atoms 𝓤} {K : Type 
 
   -- the last bytes are taken apart, and their lengths are learned
   pub finally-so : K → (made waiting table files journal : RefT (List ℕ)) (ys : Bytes)
-      → (length (ys .0) ≡ length (now made) → length (ys .1 .0) ≡ length (now waiting) → length (ys .1 .1 .0) ≡ length (now table) → length (ys .1 .1 .1 .0) ≡ length (now files) → length (ys .1 .1 .1 .1 .0) ≡ length (now journal) → Seq K W (finals made waiting table files journal ys Γ) G)
+      → (AsMany made waiting table files journal ys → Seq K W (finals made waiting table files journal ys Γ) G)
       → Seq K W (‵ (Finals made waiting table files journal ys) ∷ Γ) G
   finally-so t made waiting table files journal ys k =
-      fsplit t $ fsplit t $ move t (1 ∷ []) $ feqL t (λ lm. move t (1 ∷ []) $ fsplit t $ fsplit t $ move t (1 ∷ []) $ feqL t (λ lw. move t (1 ∷ []) $ fsplit t $ fsplit t $ move t (1 ∷ []) $ feqL t (λ lt. move t (1 ∷ []) $ fsplit t $ fsplit t $ move t (1 ∷ []) $ feqL t (λ lf. move t (1 ∷ []) $ fsplit t $ fsplit t $ move t (1 ∷ []) $ feqL t (λ lj. move t (1 ∷ []) $ drop t $ k lm lw lt lf lj)))))
+      fsplit t $ fsplit t $ move t (1 ∷ []) $ feqL t (λ lm. move t (1 ∷ []) $ fsplit t $ fsplit t $ move t (1 ∷ []) $ feqL t (λ lw. move t (1 ∷ []) $ fsplit t $ fsplit t $ move t (1 ∷ []) $ feqL t (λ lt. move t (1 ∷ []) $ fsplit t $ fsplit t $ move t (1 ∷ []) $ feqL t (λ lf. move t (1 ∷ []) $ fsplit t $ fsplit t $ move t (1 ∷ []) $ feqL t (λ lj. move t (1 ∷ []) $ drop t $ k (lm, (lw, (lt, (lf, (lj, tt))))))))))

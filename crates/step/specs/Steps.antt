@@ -12,7 +12,8 @@ use Rattle.command.specs.Commands.{Moved, situation, planned, carriedOut}
 use Rattle.decide.specs.Decisions.{Ready}
 use Rattle.step.specs.Limits.{limited}
 
--- a command with lc data bytes may run in a session on a card, after `count` others and with so many bytes of R-APDUs kept
+-- a command with lc data bytes may run in a session on a card, after `count` others and with so many bytes of R-APDUs kept; 255 bytes
+-- are lent for what it makes, and 255 for what waits
 abbrev pub MayRun : Card → Session → Command → ℕ → ℕ → ℕ → List ℕ → List ℕ → Type 0
 MayRun card s c lc count kept made waiting =
     Ready card s c lc × (count < 65535) × (kept ≤ 1000) × (length made ≡ 255) × (length waiting ≡ 255)

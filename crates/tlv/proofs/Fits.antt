@@ -8,7 +8,7 @@ use lib.Dec.{leb, ltb, eqb}
 use lib.ListN.{length}
 use borrow.Author.Tests.{leb-true, ltb-true}
 use Rattle.octets.specs.Choice.{pick}
-use Rattle.octets.specs.Bytes.{byte, numAt}
+use Rattle.octets.specs.Bytes.{byte, AllBytes, numAt}
 use Rattle.octets.proofs.Picks.{and-left, and-right, on-pick}
 use Rattle.octets.proofs.Numbers.{num-small}
 use Rattle.tlv.specs.declared.lengths.Length.{Length}
@@ -43,7 +43,7 @@ behind-fits at end size least n small =
     (λ missing. omega arith)
 
 -- lengths, templates and items in a run of bytes
-module _ (bs : List ℕ) (bytes : (k : ℕ) → byte bs k < 256) where
+module _ (bs : List ℕ) (bytes : AllBytes bs) where
   length-fits : (at end : ℕ) → LengthFits at end (lengthAt bs at end)
   unfolding shortLength longLength lengthAt LengthFits
   length-fits at end =

@@ -5,7 +5,7 @@ use crate::lengths::WRONG_LENGTH;
 use crate::lengths::code_of;
 use crate::lengths::length_at;
 ghost use mathlib.Core.Path.{_≡_};
-ghost use Prim.Native.Nat.{_+_, _≤_, _<_};
+ghost use Prim.Native.Nat.{_+_, _≤_};
 ghost use lib.ListN.{length};
 ghost use Rattle.octets.specs.Bytes.{part};
 ghost use Rattle.tlv.specs.Lengths.{lengthAt};

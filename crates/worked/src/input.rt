@@ -3,7 +3,7 @@ use lines::digits::Number;
 use lines::digits::is_script;
 use lines::digits::number_of;
 ghost use mathlib.Core.Path.{_≡_};
-ghost use Prim.Native.Nat.{_+_, _^_, _≤_};
+ghost use Prim.Native.Nat.{_^_, _≤_};
 ghost use lib.ListN.{length};
 ghost use Rattle.worked.specs.Input as spec;
 

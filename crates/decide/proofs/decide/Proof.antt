@@ -15,7 +15,7 @@ use Rattle.session.proofs.Good.{find-belongs}
 use Rattle.command.specs.declared.Format.the-variants.{Compact}
 use Rattle.command.specs.Outcomes.{failed}
 use Rattle.command.specs.Plans.{Situation}
-use Rattle.command.specs.Checks.{formalChecks, firstFailing, failWord}
+use Rattle.command.specs.Checks.{formalChecks, firstFailing, failWord, FirstWord, OfCommand}
 use Rattle.command.specs.Commands.{situation, planned}
 use Rattle.plan.specs.declared.Change.{Change}
 use Rattle.plan.specs.declared.Change.the-variants.{Nothing}
@@ -24,7 +24,7 @@ use Rattle.plan.specs.Decisions.{planOf, Fits, Brief}
 use Rattle.decide.specs.Decisions.{behindForm, Unroomed, Decided}
 use Rattle.plan.proofs.Acts.{fits-brief}
 use Rattle.decide.proofs.Plans.{formal-none, form-fails, behind, behind-select, behind-response, none-known, unknown-fails, Fails, nothing-decided}
-use Rattle.decide.proofs.Passed.{able, journal-parts, WithRoom, room-decided}
+use Rattle.decide.proofs.Passed.{able, journal-parts, journal-inside, WithRoom, room-decided}
 use Rattle.decide.proofs.decide.Statement.{statement}
 use Rattle.decide.proofs.decide.Tie as tie
 
@@ -37,17 +37,21 @@ whole s = situation (s .args .format) (s .args .domain) (s .args .c) (s .args .�
 
 -- what writes nothing is decided
 nothing : (s : tie.Start) {bytes : List ℕ} {d : Decision} → planOf d (s .args .«data» .now) bytes ≡ planned (whole s) → d .change ≡ Nothing → Decided (cardOf s) (s .args .«data» .now) bytes (planned (whole s)) d
-nothing s {bytes} {d} = nothing-decided (cardOf s) (s .args .«data» .now) bytes (planned (whole s)) d (journal-parts (s .pre .0) .used)
+nothing s {bytes} {d} = nothing-decided (cardOf s) (s .args .«data» .now) bytes (planned (whole s)) d (journal-inside (s .pre .0))
 
 -- what `formal_word` says of its word: it is that of a check that fails, or the checks behind the formal ones decide
-module _ (s : tie.Start) {word : ℕ} (told : (w : Situation) → w .command ≡ s .args .c → length (w .«data») ≡ length (s .args .«data» .now) → w .domain ≡ s .args .domain → word ≡ failWord (firstFailing w formalChecks)) where
+module _ (s : tie.Start) {word : ℕ} (told : FirstWord formalChecks (λ (w : Situation). OfCommand (s .args .c) (length (s .args .«data» .now)) w × (w .domain ≡ s .args .domain)) word) where
+  own : word ≡ failWord (firstFailing (whole s) formalChecks)
+  unfolding situation
+  own = told (whole s) (record { command = refl; count = refl }, refl)
+
   form-failed : (word ≡ 0 → ⊥) → {bytes : List ℕ} {d : Decision} → Fails (s .args .s) word d → Decided (cardOf s) (s .args .«data» .now) bytes (planned (whole s)) d
   unfolding situation
-  form-failed z f = nothing s (f .0 (s .args .«data» .now) _ ∙ form-fails (whole s) (told (whole s) refl refl refl) z) (f .1)
+  form-failed z f = nothing s (f .0 (s .args .«data» .now) _ ∙ form-fails (whole s) own z) (f .1)
 
   form-held : word ≡ 0 → behindForm (whole s) ≡ planned (whole s)
   unfolding situation
-  form-held zero = behind (whole s) (formal-none (whole s) (sym zero ∙ told (whole s) refl refl refl))
+  form-held zero = behind (whole s) (formal-none (whole s) (sym zero ∙ own))
 
 formal-word-requires : tie.Need-formal-word-requires
 formal-word-requires c κs = search needs
@@ -124,7 +128,7 @@ module _ (c : tie.After-room-of) where
 
   roomy : (change : Change) → Fits (length (start .args .table .now)) (length (start .args .files .now)) (length (start .args .«data» .now)) change → (length (start .args .«data» .now) < 256) × (c .before .used-bytes .result < 65536) × (c .before .used-bytes .result ≤ c .room-of .result) × Brief change
   roomy change h = (
-    start .pre .0 .brief,
+    start .pre .0 .bytes .brief,
     c .before .used-bytes .ensures .1,
     rw (c .before .used-bytes .ensures .0, c .room-of .ensures) (journal-parts (start .pre .0) .used),
     fits-brief _ _ _ change h,
@@ -225,7 +229,7 @@ returns-13 c =
     let s = c .before .before .before .before .before .before .before .before .before .before .before .before .before .before .before .before .before .before .before in
     let unknown = none-known (s .args .c .instruction) (c .before .before .before .before .before .before .before .before .before .before .before .before .before .if1 .left) (c .before .before .before .before .before .before .before .before .before .before .before .before .if3 .left) (c .before .before .before .before .before .before .before .before .before .if5 .left) (c .before .before .before .before .before .before .before .before .if6 .left) (c .before .before .before .before .before .before .before .if7 .left) (c .before .before .before .before .before .before .if8 .left) (c .before .before .before .before .before .if9 .left) (c .before .before .before .before .if10 .left) (c .before .before .before .if11 .left) (c .before .before .if12 .left) in
     nothing s
-    (c .failed3 .ensures .0 (s .args .«data» .now) _ ∙ ap (failed (s .args .s)) (c .before .formal-word3 .ensures (whole s) refl refl refl) ∙ unknown-fails (whole s) unknown)
+    (c .failed3 .ensures .0 (s .args .«data» .now) _ ∙ ap (failed (s .args .s)) (own s (c .before .formal-word3 .ensures)) ∙ unknown-fails (whole s) unknown)
     (c .failed3 .ensures .1)
 
 pub decide-spec : {M : Type 1} → statement M

@@ -6,7 +6,7 @@ use Rattle.card.specs.Row.{Card, lent}
 use Rattle.journal.specs.Changes.{marked}
 use Rattle.engine.specs.Numbers.{Arguments, firstGiven, runRefusals}
 use Rattle.engine.proofs.Answers.{answers-number}
-use Rattle.engine.proofs.Accepted.{journal-whole, mark-inside, scripts-byte, script-starts, accepted-run, is-marked, refused-run, compact-script, expanded-script}
+use Rattle.engine.proofs.Accepted.{journal-whole, mark-room, scripts-byte, script-starts, accepted-run, is-marked, refused-run, compact-script, expanded-script}
 use Rattle.engine.proofs.run.Statement.{statement}
 use Rattle.engine.proofs.run.Tie as tie
 
@@ -60,7 +60,7 @@ add-push-mark : tie.Need-add-push-mark
 add-push-mark c = omega (arith, scripts-byte _ _ (none (c .before .before .before .before)))
 
 push-mark-requires : tie.Need-push-mark-requires
-push-mark-requires c κs = omega (arith, mark-inside _ _ (none (c .before .before .before .before)), c .before .before .used-bytes .ensures .0)
+push-mark-requires c κs = omega (arith, mark-room _ _ (none (c .before .before .before .before)), c .before .before .used-bytes .ensures .0)
 
 -- the mark is set
 is : (k : tie.After-push-mark) → k .push-mark .last .0 ≡ marked (k .before .before .before .before .before .before .before .before .before .before .before .before .before .before .before .before .args .journal .now)

@@ -1,10 +1,9 @@
 -- `step::run_command` meets its contract: what was decided is the plan under the 1,000-byte rule, and what was carried out is that plan. Assumes nothing.
 use mathlib.Core.Path.{_≡_, sym, ap, subst, _∙_}
-use Prim.Native.Nat.{_+_, _≤_}
 use native.Mathlib.Omega.{arith}
 use lib.ListN.{length}
 use Rattle.card.specs.Row.{Card, lent}
-use Rattle.journal.specs.Entries.{usedBytes, room}
+use Rattle.journal.specs.Entries.{HasRoom}
 use Rattle.journal.specs.Changes.{cost}
 use Rattle.journal.proofs.Parts.{card-parts}
 use Rattle.command.specs.Outcomes.{Plan}
@@ -40,8 +39,7 @@ carry-out-requires c κs =
       search needs,
       s .pre .4,
       omega arith,
-      omega arith,
-      subst (λ (p : Plan). usedBytes (s .args .journal .now) + cost (p .writes) ≤ room (s .args .journal .now)) (sym (d .same)) (d .journal),
+      subst (λ (p : Plan). HasRoom (s .args .journal .now) (cost (p .writes))) (sym (d .same)) (d .journal),
       s .pre .1,
     )
 

@@ -3,8 +3,8 @@ use mathlib.Core.Path.{ap, _∙_}
 use mathlib.Core.List.{List}
 use Prim.Native.Nat.{ℕ}
 use Rattle.octets.specs.Bytes.{contains}
+use Rattle.octets.proofs.Writes.{lent-part}
 use Rattle.command.specs.Files.{recordBytes}
-use Rattle.command.proofs.Placed.{lent-part}
 use borrow.Author.Needs.{needs}
 use Rattle.command.proofs.search.record_contains.Statement.{statement}
 use Rattle.command.proofs.search.record_contains.Tie as tie

@@ -6,11 +6,10 @@ use lib.ListN.{length}
 use borrow.Author.Needs.{needs}
 use Rattle.octets.proofs.Picks.{told-false, told-true}
 use Rattle.card.specs.Row.{lent}
-use Rattle.card.proofs.Promises.{few-entries}
-use Rattle.journal.proofs.Parts.{card-table}
 use Rattle.command.specs.declared.Outcome.the-variants.{Well}
 use Rattle.command.specs.Outcomes.{goesOn}
 use Rattle.command.specs.Commands.{started}
+use Rattle.command.proofs.Keeps.{starts-small}
 use Rattle.compact.specs.Compact.{placeAfter}
 use Rattle.compact.proofs.Going.{Going, begins, ends, stops, goes}
 use Rattle.compact.proofs.run.run.Statement.{statement}
@@ -29,10 +28,7 @@ abbrev μ-loop : tie.MeasureT-loop
 μ-loop script application domain waiting₀ table₀ files₀ journal₀ step₀ made₀ at₀ waiting table files journal step made at = length script - at
 
 start-requires : tie.Need-start-requires Inv-loop μ-loop
-start-requires c κs =
-    let s = c .before .before .before .before .before in
-    let few = few-entries (s .args .table .now) (s .args .files .now) (card-table (lent (s .args .table .now) (s .args .files .now) (s .args .journal .now)) (s .pre .0 .sound)) in
-    omega (arith, few, s .pre .0 .inside)
+start-requires c κs = omega (arith, starts-small _ _ (c .before .before .before .before .before .pre .0))
 
 loop-holds : tie.Need-loop-holds Inv-loop μ-loop
 unfolding started
@@ -59,7 +55,7 @@ step-read-requires c κs =
     let g = l .5 in
     let few = g .counted in
     let short = c .before .before .before .before .before .before .before .before .before .before .before .before .before .before .pre .1 in
-    (fits .inside, fits .p1, fits .p2, fits .p3, fits .brief, g .holds .sound, g .holds .good, omega arith, l .4, g .holds .waiting)
+    (fits .inside, (record { sound = g .holds .sound; good = g .holds .good; bytes = fits .bytes }, omega arith, omega arith, l .4, g .holds .waiting))
 
 word-of-requires : tie.Need-word-of-requires Inv-loop μ-loop
 word-of-requires c κs = search needs

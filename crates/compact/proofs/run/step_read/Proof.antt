@@ -4,7 +4,6 @@ use mathlib.Core.Bool.{false}
 use mathlib.Core.List.{List}
 use Prim.Native.Nat.{ℕ}
 use native.Mathlib.Omega.{arith}
-use lib.ListN.{length-take}
 use borrow.Author.Needs.{needs}
 use Rattle.octets.specs.Choice.{pick}
 use Rattle.octets.specs.Bytes.{part}
@@ -14,6 +13,7 @@ use Rattle.command.specs.declared.Format.the-variants.{Compact}
 use Rattle.command.specs.declared.Reading.{Reading}
 use Rattle.command.specs.declared.Step.{Step}
 use Rattle.command.specs.Commands.{State, stateOf, situation, planned, carriedOut, stepped}
+use Rattle.command.proofs.Lent.{lent-bytes}
 use Rattle.step.specs.Limits.{limited}
 use Rattle.step.specs.Steps.{commanded}
 use Rattle.compact.specs.Compact.{placeAfter, stepRead}
@@ -43,19 +43,17 @@ part-run-step-end c = let inside = c .before .before .before .before .before .be
 
 run-step-requires : tie.Need-run-step-requires
 run-step-requires c κs =
-    let s = c .before .before .before .before .before .before .before .before .before .before .before .before .before .before in (
+    let s = c .before .before .before .before .before .before .before .before .before .before .before .before .before .before in
+    let may = s .pre .1 in (
       record {
-        sound = s .pre .5;
-        good = s .pre .6;
-        p1 = s .pre .1;
-        p2 = s .pre .2;
-        p3 = s .pre .3;
-        brief = rw (part-lent (s .args .script .now) (s .args .reading .from) (s .args .reading .count), length-take) (let b = s .pre .4 in omega arith);
+        sound = may .0 .sound;
+        good = may .0 .good;
+        bytes = lent-bytes (s .args .script .now) (s .args .reading .from) (may .0 .bytes);
       },
-      s .pre .7,
-      omega arith,
-      s .pre .8,
-      s .pre .9,
+      may .1,
+      may .2,
+      may .3,
+      may .4,
     )
 
 same-length : tie.Need-same-length

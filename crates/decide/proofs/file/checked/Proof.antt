@@ -1,7 +1,6 @@
 -- `decide::file::checked` meets its contract: the formal checks, and then those that look at the file's row. Assumes nothing.
 use mathlib.Core.Path.{sym, ap, _∙_}
 use borrow.Author.Needs.{needs}
-use Rattle.session.specs.declared.Session.{Session}
 use Rattle.command.specs.Checks.{formalChecks, boundChecks, failWord}
 use Rattle.decide.proofs.Plans.{first-before, first-behind, formal-none}
 use Rattle.decide.proofs.file.checked.Statement.{statement}
@@ -11,8 +10,8 @@ formal-word-requires : tie.Need-formal-word-requires
 formal-word-requires c κs = search needs
 
 returns : tie.Need-returns
-returns c = λ w k l d s r.
-    let e = c .before .formal-word .ensures w k l d in
+returns c w so =
+    let e = c .before .formal-word .ensures w (so .0, so .1) in
     e ∙ ap failWord (sym (first-before w formalChecks boundChecks (λ z. c .if1 .taken (e ∙ z))))
 
 cast-bound-word : tie.Need-cast-bound-word
@@ -25,9 +24,9 @@ bound-word-requires : tie.Need-bound-word-requires
 bound-word-requires c κs = search needs
 
 returns-2 : tie.Need-returns-2
-returns-2 c = λ w k l d s r.
-    let e = c .before .before .before .before .formal-word .ensures w k l d in
-    c .bound-word .ensures w k l (ap (λ (q : Session). q .file) s) (ap (λ (q : Session). q .number) s) r
+returns-2 c w so =
+    let e = c .before .before .before .before .formal-word .ensures w (so .0, so .1) in
+    c .bound-word .ensures w (so .0, so .2)
     ∙ ap failWord (sym (first-behind w formalChecks boundChecks (formal-none w (sym (c .before .before .before .if1 .left) ∙ e))))
 
 pub checked-spec : {M : Type 1} → statement M

@@ -30,7 +30,7 @@ read-binary-requires c κs =
     let s = c .before .before .before .before .before .before .before in
     let p = s .pre in
     let known = check-passed (s .args .«data» .now) (c .before .before .row-at .ensures) (c .before .checked .ensures) (c .if1 .left) (p .0) in
-    (c .before .before .row-at .ensures .1, p .0 .p1, p .0 .p2, to-read known (p .1))
+    (c .before .before .row-at .ensures .1, p .0 .bytes .p1, p .0 .bytes .p2, to-read known (p .1))
 
 returns-2 : tie.Need-returns-2
 unfolding situation fileAt doneBy pick

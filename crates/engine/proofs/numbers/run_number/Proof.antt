@@ -10,8 +10,9 @@ use Rattle.card.specs.Row.{Card, lent}
 use Rattle.card.proofs.Promises.{parents-smaller}
 use Rattle.journal.specs.Sound.{soundCard}
 use Rattle.journal.proofs.Parts.{card-parts, card-table}
-use Rattle.engine.specs.Numbers.{Arguments, argumentsFit, scriptFits, markFits}
-use Rattle.engine.proofs.Refusals.{arguments-root, meets-1, meets-2, meets-3, meets-4, meets-5, meets-6, meets-none}
+use Rattle.engine.specs.Numbers.{Arguments, argumentsFit, scriptFits, markFits, leastResponse, formatOf}
+use Rattle.engine.proofs.RunNumbers.{meets, least-response}
+use Rattle.engine.proofs.Refusals.{arguments-root}
 use Rattle.engine.proofs.numbers.run_number.Statement.{statement}
 use Rattle.engine.proofs.numbers.run_number.Tie as tie
 
@@ -32,7 +33,7 @@ sound-card-requires : tie.Need-sound-card-requires
 sound-card-requires c κs = search needs
 
 returns : tie.Need-returns
-returns c = (meets-1 _ _ (told-false (c .before .sound-card .ensures) (c .if1 .taken)), omega arith)
+returns c = (meets _ _ 1 (told-false (c .before .sound-card .ensures) (c .if1 .taken)), omega arith)
 
 -- what is known past each test
 sound : (o : tie.Else1) → soundCard (cardOf (o .before .before .before .before .before .before .before)) ≡ true
@@ -49,8 +50,8 @@ known o = told-true (arguments (o .before)) (o .if2 .left)
 script : (o : tie.Else3) → scriptFits (o .before .before .before .before .before .before .before .before .before .before .before .args .script .now) ≡ true
 script o = told-true (o .before .script-fits .ensures) (o .if3 .left)
 
-response : (o : tie.Else4) → 1024 ≤ length (o .before .before .before .before .before .before .before .before .before .before .before .before .args .response .now)
-response o = omega (arith, o .if4 .left)
+response : (o : tie.Else4) → leastResponse (formatOf (o .before .before .before .before .before .before .before .before .before .before .before .before .args .format)) ≤ length (o .before .before .before .before .before .before .before .before .before .before .before .before .args .response .now)
+response o = rw (least-response (formatOf (o .before .before .before .before .before .before .before .before .before .before .before .before .args .format))) (omega (arith, o .if4 .left))
 
 mark : (o : tie.Else5) → markFits (o .before .before .before .before .before .before .before .before .before .before .before .before .before .before .args .journal .now) ≡ true
 mark o = told-true (o .before .mark-fits .ensures) (o .if5 .left)
@@ -61,16 +62,16 @@ arguments-fit-requires c κs =
     parents-smaller (card .table) (card .files) (card-table card (sound c))
 
 returns-2 : tie.Need-returns-2
-returns-2 c = (meets-2 _ _ (sound (c .before .before)) (told-false (arguments (c .before)) (c .if2 .taken)), omega arith)
+returns-2 c = (meets _ _ 2 (sound (c .before .before), told-false (arguments (c .before)) (c .if2 .taken)), omega arith)
 
 script-fits-requires : tie.Need-script-fits-requires
 script-fits-requires c κs = search needs
 
 returns-3 : tie.Need-returns-3
-returns-3 c = (meets-3 _ _ (sound (c .before .before .before .before)) (known (c .before .before)) (told-false (c .before .script-fits .ensures) (c .if3 .taken)), omega arith)
+returns-3 c = (meets _ _ 3 (sound (c .before .before .before .before), known (c .before .before), told-false (c .before .script-fits .ensures) (c .if3 .taken)), omega arith)
 
 returns-4 : tie.Need-returns-4
-returns-4 c = (meets-4 _ _ (sound (c .before .before .before .before .before)) (known (c .before .before .before)) (script (c .before)) (omega (arith, c .if4 .taken)), omega arith)
+returns-4 c = (meets _ _ 4 (sound (c .before .before .before .before .before), known (c .before .before .before), script (c .before), rw (least-response (formatOf (c .before .before .before .before .before .before .before .before .before .before .before .before .args .format))) (omega (arith, c .if4 .taken))), omega arith)
 
 mark-fits-requires : tie.Need-mark-fits-requires
 mark-fits-requires c κs = omega (arith, card-parts (cardOf (c .before .before .before .before .before .before .before .before .before .before .before .before)) (sound (c .before .before .before .before .before)) .size)
@@ -78,7 +79,7 @@ mark-fits-requires c κs = omega (arith, card-parts (cardOf (c .before .before .
 returns-5 : tie.Need-returns-5
 returns-5 c =
     let o = c .before .before in
-    (meets-5 _ _ (sound (o .before .before .before .before .before)) (known (o .before .before .before)) (script (o .before)) (response o) (told-false (c .before .mark-fits .ensures) (c .if5 .taken)), omega arith)
+    (meets _ _ 5 (sound (o .before .before .before .before .before), known (o .before .before .before), script (o .before), response o, told-false (c .before .mark-fits .ensures) (c .if5 .taken)), omega arith)
 
 template-fits-requires : tie.Need-template-fits-requires
 template-fits-requires c κs = search needs
@@ -86,12 +87,12 @@ template-fits-requires c κs = search needs
 returns-6 : tie.Need-returns-6
 returns-6 c =
     let o = c .before .before .before .before in
-    (meets-6 _ _ (sound (o .before .before .before .before .before)) (known (o .before .before .before)) (script (o .before)) (response o) (mark (c .before .before)) (told-false (c .before .template-fits .ensures) (c .if6 .taken)), omega arith)
+    (meets _ _ 6 (sound (o .before .before .before .before .before), known (o .before .before .before), script (o .before), response o, mark (c .before .before), told-false (c .before .template-fits .ensures) (c .if6 .taken)), omega arith)
 
 returns-7 : tie.Need-returns-7
 returns-7 c =
     let o = c .before .before .before .before in
-    (meets-none _ _ (sound (o .before .before .before .before .before)) (known (o .before .before .before)) (script (o .before)) (response o) (mark (c .before .before)) (told-true (c .before .template-fits .ensures) (c .if6 .left)), omega arith)
+    (meets _ _ 0 (sound (o .before .before .before .before .before), known (o .before .before .before), script (o .before), response o, mark (c .before .before), told-true (c .before .template-fits .ensures) (c .if6 .left)), omega arith)
 
 pub run-number-spec : {M : Type 1} → statement M
 run-number-spec =

@@ -1,11 +1,11 @@
 -- `engine::scripts::run_expanded` meets its contract: the value of the template that the script has. Assumes nothing.
-use mathlib.Core.Path.{sym, _∙_}
+use mathlib.Core.Path.{sym, subst, _∙_}
 use native.Mathlib.Omega.{arith}
 use lib.ListN.{length}
 use borrow.Author.Needs.{needs}
 use Rattle.tlv.specs.Templates.{TemplateFits}
 use Rattle.engine.proofs.Answers.{answers-number}
-use Rattle.engine.proofs.Ended.{definite-script, indefinite-script, no-template, known-lies}
+use Rattle.engine.proofs.Ended.{definite-script, indefinite-script, no-template}
 use Rattle.engine.proofs.scripts.run_expanded.Statement.{statement}
 use Rattle.engine.proofs.scripts.run_expanded.Tie as tie
 
@@ -19,8 +19,8 @@ run-value-requires : tie.Need-run-value-requires
 unfolding TemplateFits
 run-value-requires c κs =
     let s = c .before .before .before .before .before .before .before .before .before .before .before .before .before in
-    let lies = known-lies (c .before .before .before .before .before .at .given .1) (length (s .args .script .now)) (c .before .before .before .before .before .before .before .template-of .ensures .1) in
-    (lies .0, lies .1, s .pre .0, s .pre .1, s .pre .2)
+    let lies = subst (TemplateFits (length (s .args .script .now))) (c .before .before .before .before .before .at .given .1) (c .before .before .before .before .before .before .before .template-of .ensures .1) in
+    (lies .0, lies .1, s .pre)
 
 enum-known-at-2 : tie.Need-enum-known-at-2
 enum-known-at-2 c = search needs
@@ -29,8 +29,8 @@ run-value-requires-2 : tie.Need-run-value-requires-2
 unfolding TemplateFits
 run-value-requires-2 c κs =
     let s = c .before .before .before .before .before .before .before .before .before .before .before .before .before in
-    let lies = known-lies (c .before .before .before .before .before .at2 .given .1) (length (s .args .script .now)) (c .before .before .before .before .before .before .before .template-of .ensures .1) in
-    (lies .0, lies .1, s .pre .0, s .pre .1, s .pre .2)
+    let lies = subst (TemplateFits (length (s .args .script .now))) (c .before .before .before .before .before .at2 .given .1) (c .before .before .before .before .before .before .before .template-of .ensures .1) in
+    (lies .0, lies .1, s .pre)
 
 enum-told : tie.Need-enum-told
 enum-told c = search needs

@@ -34,7 +34,7 @@ slice-aggregate-put-answer c =
 put-answer-requires : tie.Need-put-answer-requires
 put-answer-requires c κs =
     let r = c .before .before .before .before .before .before .before .before .before .before .before .before .run in (
-      omega (arith, c .before .before .before .before .before .before .before .before .before .before .before .before .before .before .before .before .before .before .before .before .before .before .before .pre .4),
+      omega (arith, c .before .before .before .before .before .before .before .before .before .before .before .before .before .before .before .before .before .before .before .before .before .before .before .pre .2 .2),
       rw length-take (omega (arith, r .ensures .1)),
       r .ensures .2,
     )

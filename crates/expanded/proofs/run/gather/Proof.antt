@@ -4,8 +4,8 @@ use Prim.Native.Nat.{_-_}
 use native.Mathlib.Omega.{arith}
 use borrow.Author.Needs.{needs}
 use lib.ListN.{length}
+use Rattle.octets.proofs.Picks.{yes, no}
 use Rattle.command.specs.Outcomes.{dataOf, dataCount}
-use Rattle.command.proofs.Order.{yes, no}
 use Rattle.command.proofs.Outgoing.{data-length}
 use Rattle.step.specs.Limits.{rapduSize}
 use Rattle.expanded.specs.Expanded.{lastRapdu, gatheredIn}

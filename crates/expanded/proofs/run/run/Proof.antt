@@ -7,11 +7,10 @@ use borrow.Author.Needs.{needs}
 use Rattle.octets.proofs.Picks.{told-false, told-true}
 use Rattle.octets.proofs.Writes.{part-length}
 use Rattle.card.specs.Row.{lent}
-use Rattle.card.proofs.Promises.{few-entries}
-use Rattle.journal.proofs.Parts.{card-table}
 use Rattle.command.specs.declared.Outcome.the-variants.{Well}
 use Rattle.command.specs.Outcomes.{goesOn}
 use Rattle.command.specs.Commands.{started}
+use Rattle.command.proofs.Keeps.{starts-small}
 use Rattle.expanded.proofs.Going.{capdu-lies, bad-lies, Going, begins, ends, breaks, stops, goes}
 use Rattle.expanded.proofs.run.run.Statement.{statement}
 use Rattle.expanded.proofs.run.run.Tie as tie
@@ -30,10 +29,7 @@ abbrev μ-loop : tie.MeasureT-loop
 μ-loop script definite at end application domain out₀ waiting₀ table₀ files₀ journal₀ g₀ made₀ place₀ out waiting table files journal g made place = end - place
 
 start-requires : tie.Need-start-requires Inv-loop μ-loop
-start-requires c κs =
-    let s = c .before .before .before .before .before .before in
-    let few = few-entries (s .args .table .now) (s .args .files .now) (card-table (lent (s .args .table .now) (s .args .files .now) (s .args .journal .now)) (s .pre .3 .sound)) in
-    omega (arith, few, s .pre .3 .inside)
+start-requires c κs = omega (arith, starts-small _ _ (c .before .before .before .before .before .before .pre .3))
 
 loop-holds : tie.Need-loop-holds Inv-loop μ-loop
 unfolding started

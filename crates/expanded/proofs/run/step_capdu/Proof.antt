@@ -2,25 +2,21 @@
 use mathlib.Core.Path.{_≡_, sym}
 use mathlib.Core.Bool.{true}
 use mathlib.Core.List.{List}
-use Prim.Native.Nat.{ℕ, _+_, _-_, _≤_, _<_}
+use Prim.Native.Nat.{ℕ, _+_, _-_, _≤_}
 use native.Mathlib.Omega.{arith}
-use lib.ListN.{length, length-take}
+use lib.ListN.{length}
 use borrow.Author.Needs.{needs}
-use Rattle.octets.specs.Bytes.{part}
 use Rattle.octets.proofs.Writes.{part-lent}
 use Rattle.card.specs.Row.{Card, lent}
 use Rattle.session.specs.Session.{mostWaiting}
 use Rattle.command.specs.Outcomes.{wordOf, dataCount, OutcomeFits, goesOn}
+use Rattle.command.proofs.Lent.{lent-bytes}
 use Rattle.step.specs.Limits.{rapduSize, mostKept}
 use Rattle.expanded.specs.Expanded.{roomToGather}
 use Rattle.expanded.proofs.Limited.{step-told}
 use Rattle.expanded.proofs.Steps.{gathered-within, stands}
 use Rattle.expanded.proofs.run.step_capdu.Statement.{statement}
 use Rattle.expanded.proofs.run.step_capdu.Tie as tie
-
--- the part that is lent is of less than 256 bytes
-data-brief : (capdu : List ℕ) (from n : ℕ) → n < 256 → length (part capdu from (from + n - from)) < 256
-data-brief capdu from n h = rw (part-lent capdu from n, length-take) (omega arith)
 
 command-of-requires : tie.Need-command-of-requires
 command-of-requires c κs = search needs
@@ -43,15 +39,11 @@ part-run-step-end c = search needs
 run-step-requires : tie.Need-run-step-requires
 run-step-requires c κs =
     let s = c .before .before .before .before .before .before .before .before .before .before .before .before .before .before .before .before .before in
-    let r = c .before .before .before .before .before .before .before .before .before .command-of in
-    let fits = r .ensures .1 in (
+    let r = c .before .before .before .before .before .before .before .before .before .command-of in (
       record {
         sound = s .pre .1;
         good = s .pre .2;
-        p1 = fits .p1;
-        p2 = fits .p2;
-        p3 = fits .p3;
-        brief = data-brief (s .args .capdu .now) (r .result .from) (r .result .count) (fits .brief);
+        bytes = lent-bytes (s .args .capdu .now) (r .result .from) (r .ensures .1 .bytes);
       },
       s .pre .3,
       s .pre .4,
@@ -76,9 +68,10 @@ told : (c : tie.After-run-step)
 told c =
     let s = c .before .before .before .before .before .before .before .before .before .before .before .before .before .before .before .before .before .before in
     let r = c .before .before .before .before .before .before .before .before .before .before .command-of in
-    let b = data-brief (s .args .capdu .now) (r .result .from) (r .result .count) (r .ensures .1 .brief) in
+    let b = lent-bytes (s .args .capdu .now) (r .result .from) (r .ensures .1 .bytes) in
+    let brief = b .brief in
     step-told (s .args .before .kept) (c .before .before .before .before .before .before .before .keeps .result) (s .args .before .step .session) (s .pre .4) (lent (s .args .table .now) (s .args .files .now) (s .args .journal .now)) (s .pre .1) (s .pre .2)
-    (s .args .domain) (r .result .command) _ (omega arith) (r .ensures .1 .p3) (s .args .waiting .now) (s .args .before .step) (c .run-step .result) (bytes c) (after c) (s .pre .7) (c .run-step .ensures)
+    (s .args .domain) (r .result .command) _ (omega arith) (b .p3) (s .args .waiting .now) (s .args .before .step) (c .run-step .result) (bytes c) (after c) (s .pre .7) (c .run-step .ensures)
     (s .args .definite) (c .before .before .before .before .before .before .before .keeps .ensures)
 
 gather-requires : tie.Need-gather-requires

@@ -14,7 +14,7 @@ cast-n c = search needs
 
 perform-requires : tie.Need-perform-requires
 unfolding planOf
-perform-requires c κs = let p = c .before .before .before .before .before .before .before .before .before .before .before .pre in (p .0, p .1, p .3, p .4, p .5)
+perform-requires c κs = let p = c .before .before .before .before .before .before .before .before .before .before .before .pre in (p .0, p .1, p .3, p .4)
 
 -- what was made is as long as the decision says
 module _ (c : tie.After-struct-known) where

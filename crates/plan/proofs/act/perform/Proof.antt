@@ -1,12 +1,12 @@
 -- `plan::act::perform` meets its contract: in each arm, what the change's fitting tells of it, and then its writes. Assumes nothing.
 use mathlib.Core.Path.{_≡_, refl, sym}
-use Prim.Native.Nat.{_+_, _≤_}
+use Prim.Native.Nat.{_+_}
 use native.Mathlib.Omega.{arith}
 use borrow.Author.Needs.{needs}
 use lib.ListN.{length, take}
 use lib.Seq.{length-take-le}
 use Rattle.card.specs.Row.{Card, lent}
-use Rattle.journal.specs.Entries.{usedBytes, scriptsOnTrial}
+use Rattle.journal.specs.Entries.{HasRoom, scriptsOnTrial}
 use Rattle.journal.specs.Changes as changes
 use Rattle.plan.specs.Decisions.{writesOf, Fits}
 use Rattle.plan.specs.declared.NewRecord.{NewRecord}
@@ -24,8 +24,8 @@ module _ (s : tie.Start) {other : Change} (same : s .args .change ≡ other) whe
   fits : Fits (length (s .args .table .now)) (length (s .args .files .now)) (length (s .args .«data» .now)) other
   fits = known-fits same (s .args .«data» .now) (s .args .made .now) (length (s .args .table .now)) (length (s .args .files .now)) (s .pre .0)
 
-  left : 4 + usedBytes (s .args .journal .now) + costOf other (length (s .args .«data» .now)) ≤ length (s .args .journal .now)
-  left = known-room same (s .args .«data» .now) (s .args .made .now) (length (s .args .table .now)) (length (s .args .files .now)) (s .args .journal .now) (s .pre .0) (s .pre .1) (s .pre .2) (s .pre .4)
+  left : HasRoom (s .args .journal .now) (costOf other (length (s .args .«data» .now)))
+  left = known-room same (s .args .«data» .now) (s .args .made .now) (length (s .args .table .now)) (length (s .args .files .now)) (s .args .journal .now) (s .pre .0) (s .pre .1) (s .pre .3)
 
   steps : {d : Card} → d ≡ changes.perform (writesOf other (s .args .«data» .now) (s .args .made .now)) (whole s) → d ≡ changes.perform (writesOf (s .args .change) (s .args .«data» .now) (s .args .made .now)) (whole s)
   steps = known-steps same (s .args .«data» .now) (s .args .made .now) (whole s)
@@ -62,7 +62,7 @@ unfolding Fits costOf
 write-record-requires c κs =
     let s = c .before .before .before .before .before .before .before .before .before .before .before in
     let same = c .before .before .before .before .change2 .given .1 in
-    (fits s same .0, fits s same .1, s .pre .3, omega (arith, left s same, fits s same .1))
+    (fits s same .0, fits s same .1, s .pre .2, omega (arith, left s same, fits s same .1))
 
 enum-known-change-3 : tie.Need-enum-known-change-3
 enum-known-change-3 c = search needs
@@ -75,7 +75,7 @@ unfolding Fits costOf
 write-record-requires-2 c κs =
     let s = c .before .before .before .before .before .before .before .before .before .before .before .before in
     let k = c .before .before .before .before .before .change3 .given in
-    (fits s (k .1) .0, sum-long s (k .0 .0) (k .1), s .pre .3, left s (k .1))
+    (fits s (k .1) .0, sum-long s (k .0 .0) (k .1), s .pre .2, left s (k .1))
 
 enum-known-change-4 : tie.Need-enum-known-change-4
 enum-known-change-4 c = search needs
