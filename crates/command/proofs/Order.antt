@@ -1,4 +1,4 @@
--- Choices by a test that is told, the first check of a list that fails, the checks behind the formal ones, and the kind of a file that record commands have passed. Assumes nothing.
+-- What a call says of a test, the first check of a list that fails, the checks behind the formal ones, and the kind of a file that record commands have passed. Assumes nothing.
 use mathlib.Core.Path.{_≡_, refl, sym, ap, _∙_}
 use mathlib.Core.Bool.{Bool, true, false, _||_}
 use mathlib.Core.List.{List, [], _∷_}

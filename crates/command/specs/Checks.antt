@@ -234,6 +234,16 @@ pub record OnFile (f n : ℕ) (r : Row) (w : Situation) : Type 0 where
   pub number : w .session .number ≡ n
   pub row : w .file .row ≡ r
 
+-- what the formal checks look at; what the checks on a file look at, up to the lengths; and both
+abbrev pub Formal : Command → ℕ → ℕ → Situation → Type 0
+Formal c lc domain w = OfCommand c lc w × (w .domain ≡ domain)
+
+abbrev pub Bound : Command → ℕ → ℕ → ℕ → Row → Situation → Type 0
+Bound c lc file number r w = OfCommand c lc w × OnFile file number r w
+
+abbrev pub Whole : Command → ℕ → ℕ → ℕ → ℕ → Row → Situation → Type 0
+Whole c lc domain file number r w = Formal c lc domain w × OnFile file number r w
+
 -- a command's parameters and the number of its data bytes are bytes
 pub record OfBytes (c : Command) (lc : ℕ) : Type 0 where
   pub p1 : c .p1 < 256

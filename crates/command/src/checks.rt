@@ -30,7 +30,6 @@ ghost use mathlib.Core.Path.{_≡_};
 ghost use mathlib.Core.Bool.{true};
 ghost use Prim.Native.Nat.{_≤_, _<_};
 ghost use Rattle.card.specs.Row.{hasRecords};
-ghost use Rattle.command.specs.Plans.{Situation};
 ghost use Rattle.command.specs.Checks as spec;
 
 // "INCREASE, .. record length at most 127"
@@ -74,7 +73,7 @@ fn domain_fits(i: usize, domain: usize) -> bool
 // The word of the first formal check that fails for a command with its instruction, or 0.
 pub fn formal_word(i: usize, c: Command, lc: usize, domain: usize) -> usize
     requires { ⌜ c .instruction ≡ i ⌝ }
-    ensures { λ n. ⌜ spec.FirstWord spec.formalChecks (λ (w : Situation). spec.OfCommand c lc w × (w .domain ≡ domain)) n ⌝ }
+    ensures { λ n. ⌜ spec.FirstWord spec.formalChecks (spec.Formal c lc domain) n ⌝ }
 {
     if !c.whole {
         return 0x6700;
@@ -193,7 +192,7 @@ fn length_fits(i: usize, offset: usize, p3: usize, lc: usize, r: Row) -> bool
 // with its row, and the record number is the current one.
 pub fn bound_word(i: usize, c: Command, lc: usize, file: usize, number: usize, r: Row) -> usize
     requires { ⌜ spec.Checkable i c lc r ⌝ }
-    ensures { λ n. ⌜ spec.FirstWord spec.boundChecks (λ (w : Situation). spec.OfCommand c lc w × spec.OnFile file number r w) n ⌝ }
+    ensures { λ n. ⌜ spec.FirstWord spec.boundChecks (spec.Bound c lc file number r) n ⌝ }
 {
     let offset = c.p1 * 256 + c.p2;
     if file < 1 {

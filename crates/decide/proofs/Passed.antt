@@ -26,7 +26,7 @@ use Rattle.command.specs.Instructions as ins
 use Rattle.command.specs.Instructions.{isRecord}
 use Rattle.command.specs.Files.{File, Recorded, fileAt}
 use Rattle.command.specs.Plans.{Situation, offsetOf, namedBy, switch, doneBy}
-use Rattle.command.specs.Checks.{holds, formalChecks, boundChecks, kindFits, offsetFits, recordFits, lengthFits, FirstWord, OfCommand, OnFile, Checkable}
+use Rattle.command.specs.Checks.{holds, formalChecks, boundChecks, kindFits, offsetFits, recordFits, lengthFits, FirstWord, Checkable, Bound, Whole}
 use Rattle.command.specs.Commands.{situation, planned}
 use Rattle.command.proofs.Order.{record-kind}
 use Rattle.card.proofs.Places.{offset-inside}
@@ -114,9 +114,11 @@ module _ {t files : List ℕ} {s : Session} {c : Command} {lc : ℕ} (can : Able
     pub to-check : {i : ℕ} → c .instruction ≡ i → Checkable i c lc r
     to-check e = (e, records-long, can .bytes)
 
-    passed : Narrow r → (w : Situation) → OfCommand c lc w → OnFile (s .file) (s .number) r w → AllHold w boundChecks → Known (length files) c lc s r
+    passed : Narrow r → (w : Situation) → Bound c lc (s .file) (s .number) r w → AllHold w boundChecks → Known (length files) c lc s r
     unfolding boundChecks holds
-    passed narrow w of on h =
+    passed narrow w so h =
+        let of = so .0 in
+        let on = so .1 in
         let some : 1 ≤ s .file = rw (on .file) at (leb-true 1 (w .session .file) (h .0)) in
         let inside = file-inside (length files) r own (rw same (can .good .file some .isFile)) in
         record {
@@ -154,24 +156,21 @@ activates = record { done = λ w. refl; plain = refl; byte = omega arith }
 abbrev pub Read : List ℕ → Session → Row → Type 0
 Read t s r = (r ≡ rowOf t (s .file)) × Narrow r
 
-abbrev Seen : ℕ → Command → ℕ → Session → Row → Situation → Type 0
-Seen domain c lc s r w = OfCommand c lc w × (w .domain ≡ domain) × OnFile (s .file) (s .number) r w
-
 abbrev pub Told : ℕ → Command → ℕ → Session → Row → ℕ → Type 0
-Told domain c lc s r word = FirstWord (formalChecks ++ boundChecks) (Seen domain c lc s r) word
+Told domain c lc s r word = FirstWord (formalChecks ++ boundChecks) (Whole c lc domain (s .file) (s .number) r) word
 
 -- a command's own situation is one of these
-own-situation : (format : Format) (domain : ℕ) (c : Command) («data» : List ℕ) (s : Session) (t files journal : List ℕ) {r : Row} → Read t s r → Seen domain c (length «data») s r (situation format domain c «data» s (lent t files journal))
+own-situation : (format : Format) (domain : ℕ) (c : Command) («data» : List ℕ) (s : Session) (t files journal : List ℕ) {r : Row} → Read t s r → Whole c (length «data») domain (s .file) (s .number) r (situation format domain c «data» s (lent t files journal))
 unfolding situation fileAt
 own-situation format domain c «data» s t files journal row =
-    (record { command = refl; count = refl }, refl, record { file = refl; number = refl; row = sym (row .0) })
+    ((record { command = refl; count = refl }, refl), record { file = refl; number = refl; row = sym (row .0) })
 
 -- what is known where the word is 0
 pub check-passed : {domain : ℕ} {c : Command} («data» : List ℕ) {s : Session} {t files : List ℕ} {r : Row} {word : ℕ} → Read t s r → Told domain c (length «data») s r word → word ≡ 0 → Able t files s c (length «data») → Known (length files) c (length «data») s r
 check-passed {domain} {c} «data» {s} {t} {files} row told zero can =
     let w = situation Compact domain c «data» s (lent t files []) in
     let so = own-situation Compact domain c «data» s t files [] row in
-    passed can (row .0) (row .1) w (so .0) (so .2) (bounds-hold w (sym zero ∙ told w so))
+    passed can (row .0) (row .1) w (so .0 .0, so .1) (bounds-hold w (sym zero ∙ told w so))
 
 module _ {domain : ℕ} {c : Command} {«data» : List ℕ} {s : Session} {t files : List ℕ} {r : Row} {word : ℕ} (row : Read t s r) (told : Told domain c (length «data») s r word) where
   -- what comes of a check that fails

@@ -22,14 +22,13 @@ ghost use mathlib.Core.List.{List, _++_};
 ghost use Prim.Native.Nat.{ℕ};
 ghost use lib.ListN.{length};
 ghost use Rattle.command.specs.Instructions as ins;
-ghost use Rattle.command.specs.Plans.{Situation};
 ghost use Rattle.command.specs.Checks as checks-spec;
 ghost use Rattle.decide.specs.Decisions.{Able, Unroomed};
 
 // The word of the first check of a file command that fails, up to the lengths, or 0.
 fn checked(i: usize, c: Command, lc: usize, domain: usize, s: Session, r: Row) -> usize
     requires { ⌜ checks-spec.Checkable i c lc r ⌝ }
-    ensures { λ n. ⌜ checks-spec.FirstWord (checks-spec.formalChecks ++ checks-spec.boundChecks) (λ (w : Situation). checks-spec.OfCommand c lc w × (w .domain ≡ domain) × checks-spec.OnFile (s .file) (s .number) r w) n ⌝ }
+    ensures { λ n. ⌜ checks-spec.FirstWord (checks-spec.formalChecks ++ checks-spec.boundChecks) (checks-spec.Whole c lc domain (s .file) (s .number) r) n ⌝ }
 {
     let word = formal_word(i, c, lc, domain);
     if word != 0 {

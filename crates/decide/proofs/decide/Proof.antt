@@ -15,7 +15,7 @@ use Rattle.session.proofs.Good.{find-belongs}
 use Rattle.command.specs.declared.Format.the-variants.{Compact}
 use Rattle.command.specs.Outcomes.{failed}
 use Rattle.command.specs.Plans.{Situation}
-use Rattle.command.specs.Checks.{formalChecks, firstFailing, failWord, FirstWord, OfCommand}
+use Rattle.command.specs.Checks.{formalChecks, firstFailing, failWord, FirstWord, Formal}
 use Rattle.command.specs.Commands.{situation, planned}
 use Rattle.plan.specs.declared.Change.{Change}
 use Rattle.plan.specs.declared.Change.the-variants.{Nothing}
@@ -40,7 +40,7 @@ nothing : (s : tie.Start) {bytes : List ℕ} {d : Decision} → planOf d (s .arg
 nothing s {bytes} {d} = nothing-decided (cardOf s) (s .args .«data» .now) bytes (planned (whole s)) d (journal-inside (s .pre .0))
 
 -- what `formal_word` says of its word: it is that of a check that fails, or the checks behind the formal ones decide
-module _ (s : tie.Start) {word : ℕ} (told : FirstWord formalChecks (λ (w : Situation). OfCommand (s .args .c) (length (s .args .«data» .now)) w × (w .domain ≡ s .args .domain)) word) where
+module _ (s : tie.Start) {word : ℕ} (told : FirstWord formalChecks (Formal (s .args .c) (length (s .args .«data» .now)) (s .args .domain)) word) where
   own : word ≡ failWord (firstFailing (whole s) formalChecks)
   unfolding situation
   own = told (whole s) (record { command = refl; count = refl }, refl)

@@ -8,7 +8,7 @@ use lib.ListN.{drop}
 use borrow.Author.Tests.{le-leb, lt-leb, not-true, not-false}
 use Rattle.command.proofs.Order.{told, Left, all-left, passes, fails, all-hold}
 use Rattle.command.specs.Plans.{Situation, offsetOf}
-use Rattle.command.specs.Checks.{Check, noFile, wrongKind, wrongMode, isShut, isNever, offsetOutside, noRecord, wrongLength, boundChecks, checkWord, holds, OfCommand, OnFile}
+use Rattle.command.specs.Checks.{Check, noFile, wrongKind, wrongMode, isShut, isNever, offsetOutside, noRecord, wrongLength, boundChecks, checkWord, holds, Bound}
 use borrow.Author.Needs.{needs}
 use Rattle.command.proofs.checks.bound_word.Statement.{statement}
 use Rattle.command.proofs.checks.bound_word.Tie as tie
@@ -21,7 +21,7 @@ add-offset c = omega (arith, c .before .before .pre .2 .p1, c .before .before .p
 
 -- what is known of the situations, and what a check finds in them
 abbrev Known : tie.Start → Situation → Type 0
-Known s w = OfCommand (s .args .c) (s .args .lc) w × OnFile (s .args .file) (s .args .number) (s .args .r) w
+Known s = Bound (s .args .c) (s .args .lc) (s .args .file) (s .args .number) (s .args .r)
 
 abbrev Finds : tie.Start → Check → Bool → Type 0
 Finds s k found = (w : Situation) → Known s w → holds w k ≡ found

@@ -7,14 +7,14 @@ use lib.ListN.{drop}
 use borrow.Author.Tests.{eq-eqb, ne-eqb, not-true, not-false}
 use Rattle.command.proofs.Order.{Left, all-left, passes, fails, all-hold}
 use Rattle.command.specs.Plans.{Situation}
-use Rattle.command.specs.Checks.{Check, brokenForm, unknownInstruction, wrongClass, bytesAfter, wrongCase, wrongParameters, wrongDomain, formalChecks, checkWord, holds, OfCommand}
+use Rattle.command.specs.Checks.{Check, brokenForm, unknownInstruction, wrongClass, bytesAfter, wrongCase, wrongParameters, wrongDomain, formalChecks, checkWord, holds, Formal}
 use borrow.Author.Needs.{needs}
 use Rattle.command.proofs.checks.formal_word.Statement.{statement}
 use Rattle.command.proofs.checks.formal_word.Tie as tie
 
 -- what is known of the situations, and what a check finds in them
 abbrev Known : tie.Start → Situation → Type 0
-Known s w = OfCommand (s .args .c) (s .args .lc) w × (w .domain ≡ s .args .domain)
+Known s = Formal (s .args .c) (s .args .lc) (s .args .domain)
 
 abbrev Finds : tie.Start → Check → Bool → Type 0
 Finds s k found = (w : Situation) → Known s w → holds w k ≡ found

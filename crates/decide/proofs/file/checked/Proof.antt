@@ -11,7 +11,7 @@ formal-word-requires c κs = search needs
 
 returns : tie.Need-returns
 returns c w so =
-    let e = c .before .formal-word .ensures w (so .0, so .1) in
+    let e = c .before .formal-word .ensures w (so .0) in
     e ∙ ap failWord (sym (first-before w formalChecks boundChecks (λ z. c .if1 .taken (e ∙ z))))
 
 cast-bound-word : tie.Need-cast-bound-word
@@ -25,8 +25,8 @@ bound-word-requires c κs = search needs
 
 returns-2 : tie.Need-returns-2
 returns-2 c w so =
-    let e = c .before .before .before .before .formal-word .ensures w (so .0, so .1) in
-    c .bound-word .ensures w (so .0, so .2)
+    let e = c .before .before .before .before .formal-word .ensures w (so .0) in
+    c .bound-word .ensures w (so .0 .0, so .1)
     ∙ ap failWord (sym (first-behind w formalChecks boundChecks (formal-none w (sym (c .before .before .before .if1 .left) ∙ e))))
 
 pub checked-spec : {M : Type 1} → statement M
