@@ -26,7 +26,7 @@ use Rattle.command.specs.Instructions as ins
 use Rattle.command.specs.Instructions.{isRecord}
 use Rattle.command.specs.Files.{File, Recorded, fileAt}
 use Rattle.command.specs.Plans.{Situation, offsetOf, namedBy, switch, doneBy}
-use Rattle.command.specs.Checks.{holds, formalChecks, boundChecks, kindFits, offsetFits, recordFits, lengthFits, FirstWord, Checkable, Bound, Whole}
+use Rattle.command.specs.Checks.{holds, formalChecks, boundChecks, kindFits, offsetFits, recordFits, lengthFits, FirstWord, Checkable, Bound, Whole, Formal}
 use Rattle.command.specs.Commands.{situation, planned}
 use Rattle.command.proofs.Order.{record-kind}
 use Rattle.card.proofs.Places.{offset-inside}
@@ -160,10 +160,14 @@ abbrev pub Told : ℕ → Command → ℕ → Session → Row → ℕ → Type 0
 Told domain c lc s r word = FirstWord (formalChecks ++ boundChecks) (Whole c lc domain (s .file) (s .number) r) word
 
 -- a command's own situation is one of these
+pub own-formal : (format : Format) (domain : ℕ) (c : Command) («data» : List ℕ) (s : Session) (card : Card) → Formal c (length «data») domain (situation format domain c «data» s card)
+unfolding situation
+own-formal format domain c «data» s card = (record { command = refl; count = refl }, refl)
+
 own-situation : (format : Format) (domain : ℕ) (c : Command) («data» : List ℕ) (s : Session) (t files journal : List ℕ) {r : Row} → Read t s r → Whole c (length «data») domain (s .file) (s .number) r (situation format domain c «data» s (lent t files journal))
 unfolding situation fileAt
 own-situation format domain c «data» s t files journal row =
-    ((record { command = refl; count = refl }, refl), record { file = refl; number = refl; row = sym (row .0) })
+    (own-formal format domain c «data» s (lent t files journal), record { file = refl; number = refl; row = sym (row .0) })
 
 -- what is known where the word is 0
 pub check-passed : {domain : ℕ} {c : Command} («data» : List ℕ) {s : Session} {t files : List ℕ} {r : Row} {word : ℕ} → Read t s r → Told domain c (length «data») s r word → word ≡ 0 → Able t files s c (length «data») → Known (length files) c (length «data») s r

@@ -24,7 +24,7 @@ use Rattle.plan.specs.Decisions.{planOf, Fits, Brief}
 use Rattle.decide.specs.Decisions.{behindForm, Unroomed, Decided}
 use Rattle.plan.proofs.Acts.{fits-brief}
 use Rattle.decide.proofs.Plans.{formal-none, form-fails, behind, behind-select, behind-response, none-known, unknown-fails, Fails, nothing-decided}
-use Rattle.decide.proofs.Passed.{able, journal-parts, journal-inside, WithRoom, room-decided}
+use Rattle.decide.proofs.Passed.{able, own-formal, journal-parts, journal-inside, WithRoom, room-decided}
 use Rattle.decide.proofs.decide.Statement.{statement}
 use Rattle.decide.proofs.decide.Tie as tie
 
@@ -42,15 +42,13 @@ nothing s {bytes} {d} = nothing-decided (cardOf s) (s .args .«data» .now) byte
 -- what `formal_word` says of its word: it is that of a check that fails, or the checks behind the formal ones decide
 module _ (s : tie.Start) {word : ℕ} (told : FirstWord formalChecks (Formal (s .args .c) (length (s .args .«data» .now)) (s .args .domain)) word) where
   own : word ≡ failWord (firstFailing (whole s) formalChecks)
-  unfolding situation
-  own = told (whole s) (record { command = refl; count = refl }, refl)
+  own = told (whole s) (own-formal (s .args .format) (s .args .domain) (s .args .c) (s .args .«data» .now) (s .args .s) (cardOf s))
 
   form-failed : (word ≡ 0 → ⊥) → {bytes : List ℕ} {d : Decision} → Fails (s .args .s) word d → Decided (cardOf s) (s .args .«data» .now) bytes (planned (whole s)) d
   unfolding situation
   form-failed z f = nothing s (f .0 (s .args .«data» .now) _ ∙ form-fails (whole s) own z) (f .1)
 
   form-held : word ≡ 0 → behindForm (whole s) ≡ planned (whole s)
-  unfolding situation
   form-held zero = behind (whole s) (formal-none (whole s) (sym zero ∙ own))
 
 formal-word-requires : tie.Need-formal-word-requires
