@@ -4,11 +4,12 @@ use mathlib.Core.Bool.{Bool, true, false, false≢true}
 use mathlib.Core.List.{List, [], _∷_}
 use Prim.Native.Nat.{ℕ}
 use Rattle.octets.proofs.Picks.{on-pick}
+use Rattle.card.specs.declared.Row.{Row}
 use Rattle.card.specs.declared.tree.Found.{Found}
 use Rattle.card.specs.declared.tree.Found.the-variants.{At, Nothing}
 use Rattle.card.specs.Row.{Card}
 use Rattle.journal.specs.Changes.{Write, perform}
-use Rattle.session.specs.declared.Session.{Session}
+use Rattle.session.specs.declared.Standing.{Standing}
 use Rattle.command.specs.declared.Format.{Format}
 use Rattle.command.specs.declared.Format.the-variants.{Compact, Expanded}
 use Rattle.command.specs.declared.Command.{Command}
@@ -26,7 +27,7 @@ isError (FromFiles word place n) = false
 isError (FromWaiting word n) = false
 isError (Error word) = true
 
-module _ (s : Session) where
+module _ (s : Standing) where
   abbrev Still : Plan → Type 0
   Still p = (x : ℕ) → p .outcome ≡ Error x → (p .writes ≡ []) × (p .session ≡ s)
 
@@ -38,23 +39,23 @@ module _ (s : Session) where
   still-well : (p : Plan) → isError (p .outcome) ≡ false → Still p
   still-well p well x e = absurd (false≢true (sym well ∙ ap isError e))
 
-  still-done : (s′ : Session) (word : ℕ) (ws : List Write) → Still (done s′ word ws)
+  still-done : (s′ : Standing) (word : ℕ) (ws : List Write) → Still (done s′ word ws)
   unfolding done
   still-done s′ word ws = still-well (done s′ word ws) refl
 
-  still-handed : (s′ : Session) (word place n : ℕ) → Still (handed s′ word place n)
+  still-handed : (s′ : Standing) (word place n : ℕ) → Still (handed s′ word place n)
   unfolding handed
   still-handed s′ word place n = still-well (handed s′ word place n) refl
 
-  still-produced : (format : Format) (s′ : Session) (word : ℕ) (d : List ℕ) (ws : List Write) → Still (produced format s′ word d ws)
+  still-produced : (format : Format) (s′ : Standing) (word : ℕ) (d : List ℕ) (ws : List Write) → Still (produced format s′ word d ws)
   unfolding produced
   still-produced Compact s′ word d ws = still-well (produced Compact s′ word d ws) refl
   still-produced Expanded s′ word d ws = still-well (produced Expanded s′ word d ws) refl
 
-  still-select : (format : Format) (p2 : ℕ) (t : List ℕ) (found : Found) → Still (select format s p2 t found)
+  still-select : (format : Format) (p2 : ℕ) (r : Row) (found : Found) → Still (select format s p2 r found)
   unfolding select selectEntry
-  still-select format p2 t (At e) = on-pick Still _ _ _ (λ y. still-done _ _ _) (λ y. still-produced format _ _ _ _)
-  still-select format p2 t Nothing = still-failed 0x6A82
+  still-select format p2 r (At e) = on-pick Still _ _ _ (λ y. still-done _ _ _) (λ y. still-produced format _ _ _ _)
+  still-select format p2 r Nothing = still-failed 0x6A82
 
   still-read : (format : Format) (c : Command) (f : File) → Still (readBinary format c s f)
   unfolding readBinary
@@ -70,14 +71,14 @@ module _ (s : Session) where
   still-response c = still-well (getResponse c s) refl
 
 module _ (w : Situation) where
-  abbrev s : Session
+  abbrev s : Standing
   s = w .session
 
   still-by : (i : ℕ) → Still s (doneBy i w)
   unfolding updateBinary readRecord updateRecord search increase switch
   still-by i =
       by-instruction (Still s) w i
-      (λ _. still-select s (w .format) (w .command .p2) (w .table) (w .found))
+      (λ _. still-select s (w .format) (w .command .p2) (w .row) (w .found))
       (λ _. still-read s (w .format) (w .command) (w .file))
       (λ _. still-done s _ _ _)
       (λ _. still-handed s _ _ _ _)

@@ -18,9 +18,9 @@ use Rattle.card.specs.Sound.{recordCount, stateSound, ownSound, soundTable}
 use Rattle.card.proofs.Promises.{file-inside, record-short, records-some, records-few, entry-own}
 use Rattle.journal.specs.Changes.{Write}
 use Rattle.journal.proofs.Kept.{AllForms}
-use Rattle.session.specs.declared.Session.{Session}
+use Rattle.session.specs.declared.Standing.{Standing}
 use Rattle.session.specs.Session.{atRecord, selected}
-use Rattle.session.specs.Select.{find}
+use Rattle.session.specs.Select.{find, rowFound}
 use Rattle.session.specs.Fcp.{fcp}
 use Rattle.session.specs.Good.{Belongs, GoodFile, Good}
 use Rattle.session.proofs.Good.{good-record, good-waits, good-dropped, good-selected, find-belongs}
@@ -47,7 +47,7 @@ most-read Compact = omega arith
 most-read Expanded = omega arith
 
 -- the ways in which a plan ends
-module _ (card : Card) (c : Command) (s : Session) (good : Good (card .table) s) where
+module _ (card : Card) (c : Command) (s : Standing) (good : Good (card .table) s) where
   pub fit-failed : (word : ℕ) → Fit card c (failed s word)
   unfolding failed OutcomeFits
   fit-failed word = record { forms = tt; good = good; made = omega arith; outcome = λ b. tt }
@@ -71,7 +71,7 @@ module _ (card : Card) (c : Command) (s : Session) (good : Good (card .table) s)
   fit-response =
       record { forms = tt; good = good; made = omega arith; outcome = λ b. on-pick (λ n. n ≤ 255) _ (s .valid) (c .p3) (λ e. good .valid) (λ e. omega arith) }
 
-module _ (card : Card) (sound : soundTable (card .table) (card .files) ≡ true) (c : Command) (s : Session) (good : Good (card .table) s) where
+module _ (card : Card) (sound : soundTable (card .table) (card .files) ≡ true) (c : Command) (s : Standing) (good : Good (card .table) s) where
   -- SELECT
   entry-selected : (format : Format) (p2 e : ℕ) → Belongs (card .table) (s .root) e → Fit card c (selectEntry format s p2 e (rowOf (card .table) e))
   unfolding selectEntry
@@ -81,8 +81,8 @@ module _ (card : Card) (sound : soundTable (card .table) (card .files) ≡ true)
       let short = fcp-short (rowOf (card .table) e) in
       on-pick (Fit card c) _ _ _ (λ y. fit-done card c after g _ [] tt) (λ y. fit-produced card c after g format _ (fcp (rowOf (card .table) e)) [] (omega arith) tt)
 
-  pub fit-select : (format : Format) (p1 p2 : ℕ) («data» : List ℕ) (found : Found) → find (card .table) (s .root) (s .directory) p1 «data» ≡ found → Fit card c (select format s p2 (card .table) found)
-  unfolding select
+  pub fit-select : (format : Format) (p1 p2 : ℕ) («data» : List ℕ) (found : Found) → find (card .table) (s .root) (s .directory) p1 «data» ≡ found → Fit card c (select format s p2 (rowFound (card .table) found) found)
+  unfolding select rowFound
   fit-select format p1 p2 «data» (At e) f = entry-selected format p2 e (find-belongs (card .table) (card .files) sound s good p1 «data» e f)
   fit-select format p1 p2 «data» Nothing f = fit-failed card c s good 0x6A82
 

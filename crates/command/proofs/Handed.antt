@@ -18,7 +18,7 @@ use Rattle.journal.specs.Changes.{Memory, fileMemory, Write, memoryOf, write, p
 use Rattle.journal.proofs.Parts.{card-table}
 use Rattle.journal.proofs.Written.{AllFit, fit-kept, write-lengths}
 use Rattle.journal.proofs.Kept.{forms-fit}
-use Rattle.session.specs.declared.Session.{Session}
+use Rattle.session.specs.declared.Standing.{Standing}
 use Rattle.session.specs.Session.{mostWaiting}
 use Rattle.session.specs.Good.{Good}
 use Rattle.command.specs.declared.Format.{Format}
@@ -42,7 +42,7 @@ perform-lengths (w ∷ ws) c fits m =
     let first = write-lengths w c (fits .0) in
     perform-lengths ws (write w c) (fit-kept ws c (write w c) first (fits .1)) m ∙ first m
 
-module _ (s : Session) (card : Card) (sound : soundCard card ≡ true) (good : Good (card .table) s) (format : Format) (domain : ℕ) (c : Command) («data» : List ℕ) (brief : length «data» ≤ 255) where
+module _ (s : Standing) (card : Card) (sound : soundCard card ≡ true) (good : Good (card .table) s) (format : Format) (domain : ℕ) (c : Command) («data» : List ℕ) (brief : length «data» ≤ 255) where
   abbrev plan : Plan
   plan = planned (situation format domain c «data» s card)
 
@@ -76,7 +76,7 @@ module _ (w : Situation) where
   other-case : {A : Type 0} {i : ℕ} (x : ℕ) → handsOut (caseOf x p2) ≡ true → i ≡ x → handsOut (caseOf i p2) ≡ false → A
   other-case x y e h = absurd (false≢true (sym h ∙ ap (λ (k : ℕ). handsOut (caseOf k p2)) e ∙ y))
 
-  bare-select : (found : Found) → handsOut (caseOf ins.select p2) ≡ false → Bare (select (w .format) (w .session) p2 (w .table) found)
+  bare-select : (found : Found) → handsOut (caseOf ins.select p2) ≡ false → Bare (select (w .format) (w .session) p2 (w .row) found)
   unfolding select selectEntry caseOf pick done failed
   bare-select (At e) h = on-pick Bare (eqb p2 noData) _ _ (λ y. refl) (λ n. absurd (false≢true (sym (rw n at h))))
   bare-select Nothing h = refl

@@ -26,7 +26,7 @@ module _ (P : Plan → Type 0) (w : Situation) where
 
   -- what an instruction does; of those that there are, the last is GET RESPONSE
   pub by-instruction : (i : ℕ)
-      → (i ≡ ins.select → P (select (w .format) (w .session) (w .command .p2) (w .table) (w .found)))
+      → (i ≡ ins.select → P (select (w .format) (w .session) (w .command .p2) (w .row) (w .found)))
       → (i ≡ ins.readBinary → P (readBinary (w .format) (w .command) (w .session) (w .file)))
       → (i ≡ ins.updateBinary → P (updateBinary (w .command) (w .«data») (w .session) (w .file)))
       → (i ≡ ins.readRecord → P (readRecord (w .command) (w .session) (w .file)))

@@ -16,7 +16,7 @@ use Rattle.journal.proofs.Parts.{card-table, card-parts}
 use Rattle.journal.proofs.Written.{Writable, sound-writable, AllFit, write-scripts, perform-same}
 use Rattle.journal.proofs.Undone.{back-perform}
 use Rattle.journal.proofs.Kept.{forms-fit, perform-alike, perform-sound}
-use Rattle.session.specs.declared.Session.{Session}
+use Rattle.session.specs.declared.Standing.{Standing}
 use Rattle.session.specs.Session.{mostWaiting, start, startWaiting}
 use Rattle.session.specs.Good.{Good}
 use Rattle.session.proofs.Good.{good-start, good-kept}
@@ -33,7 +33,7 @@ pub perform-scripts : (ws : List Write) (c : Card) → AllFit ws c → Writable 
 perform-scripts = perform-same (λ (c : Card). scriptsOnTrial (c .journal)) write-scripts
 
 -- what holds between the commands of a script: a card before it is what a take-back gives
-pub record Holds (before : Card) (s : Session) (bytes : List ℕ) (card : Card) : Type 0 where
+pub record Holds (before : Card) (s : Standing) (bytes : List ℕ) (card : Card) : Type 0 where
   pub sound : soundCard card ≡ true
   pub trial : 1 ≤ scriptsOnTrial (card .journal)
   pub good : Good (card .table) s
@@ -56,7 +56,7 @@ starts-holds card application starts =
 pub starts-small : (card : Card) (application : ℕ) → Starts card application → application < 64
 starts-small card application starts = omega (arith, few-entries (card .table) (card .files) (card-table card (starts .sound)), starts .inside)
 
-module _ (before : Card) (s : Session) (waiting : List ℕ) (card : Card) (h : Holds before s waiting card) where
+module _ (before : Card) (s : Standing) (waiting : List ℕ) (card : Card) (h : Holds before s waiting card) where
   abbrev pub Carries : Plan → Type 0
   Carries p =
       let m : Moved = carriedOut p waiting card in

@@ -11,7 +11,7 @@ use Rattle.card.specs.declared.Row.{Row}
 use Rattle.card.specs.Row.{Card, rowOf, hasRecords, isCyclic, activated, deactivated}
 use Rattle.card.specs.Sound.{recordCount, soundTable}
 use Rattle.card.proofs.Promises.{cyclic-records}
-use Rattle.session.specs.declared.Session.{Session}
+use Rattle.session.specs.declared.Standing.{Standing}
 use Rattle.session.specs.Good.{Good}
 use Rattle.command.specs.declared.Format.{Format}
 use Rattle.command.specs.declared.Command.{Command}
@@ -26,7 +26,7 @@ use Rattle.command.proofs.Instructed.{of-planned, by-instruction}
 use Rattle.command.proofs.Passed.{Passed, passed, data-some, kind-increased, offset-read, length-binary, length-record, length-increased, named-there}
 use Rattle.command.proofs.Fit.{Fit, fit-failed, fit-response, fit-read, fit-select, fit-update, fit-switch, fit-record, fit-rewrite, fit-search, fit-increase}
 
-module _ (format : Format) (domain : ℕ) (c : Command) («data» : List ℕ) (s : Session) (card : Card) (sound : soundTable (card .table) (card .files) ≡ true) (good : Good (card .table) s) where
+module _ (format : Format) (domain : ℕ) (c : Command) («data» : List ℕ) (s : Standing) (card : Card) (sound : soundTable (card .table) (card .files) ≡ true) (good : Good (card .table) s) where
   -- a command on a file, all of whose checks hold
   module _ (p : Passed (situation format domain c «data» s card)) where
     abbrev r : Row

@@ -9,13 +9,14 @@ use lib.Dec.{eqb}
 use borrow.Author.Tests.{leb-true, eqb-true}
 use Rattle.octets.proofs.Picks.{on-pick, either}
 use Rattle.octets.specs.Choice.{pick}
+use Rattle.card.specs.declared.Row.{Row}
 use Rattle.card.specs.declared.tree.Found.{Found}
 use Rattle.card.specs.declared.tree.Found.the-variants.{At, Nothing}
 use Rattle.card.specs.Row.{Card}
 use Rattle.journal.specs.Entries.{HasRoom}
 use Rattle.journal.specs.Changes.{Write, cost}
 use Rattle.journal.proofs.Parts.{Parts, used-inside, room-left}
-use Rattle.session.specs.declared.Session.{Session}
+use Rattle.session.specs.declared.Standing.{Standing}
 use Rattle.command.specs.declared.Format.{Format}
 use Rattle.command.specs.declared.Format.the-variants.{Compact, Expanded}
 use Rattle.command.specs.declared.Command.{Command}
@@ -28,25 +29,25 @@ use Rattle.command.specs.Commands.{situation, planned}
 use Rattle.command.proofs.Passed.{Passed, passed}
 use Rattle.command.proofs.Instructed.{of-planned}
 
-produced-writes : (format : Format) (s : Session) (word : ℕ) (d : List ℕ) (ws : List Write) → produced format s word d ws .writes ≡ ws
+produced-writes : (format : Format) (s : Standing) (word : ℕ) (d : List ℕ) (ws : List Write) → produced format s word d ws .writes ≡ ws
 unfolding produced
 produced-writes Compact s word d ws = refl
 produced-writes Expanded s word d ws = refl
 
-select-writes : (format : Format) (s : Session) (p2 : ℕ) (t : List ℕ) (found : Found) → select format s p2 t found .writes ≡ []
+select-writes : (format : Format) (s : Standing) (p2 : ℕ) (r : Row) (found : Found) → select format s p2 r found .writes ≡ []
 unfolding select selectEntry failed done
-select-writes format s p2 t (At e) = on-pick (λ (p : Plan). p .writes ≡ []) _ _ _ (λ y. refl) (λ y. produced-writes format _ _ _ [])
-select-writes format s p2 t Nothing = refl
+select-writes format s p2 r (At e) = on-pick (λ (p : Plan). p .writes ≡ []) _ _ _ (λ y. refl) (λ y. produced-writes format _ _ _ [])
+select-writes format s p2 r Nothing = refl
 
 select-free : (i : ℕ) (w : Situation) → i ≡ ins.select → doneBy i w .writes ≡ []
 unfolding doneBy pick
-select-free i w e = ap (λ (k : ℕ). doneBy k w .writes) e ∙ select-writes (w .format) (w .session) (w .command .p2) (w .table) (w .found)
+select-free i w e = ap (λ (k : ℕ). doneBy k w .writes) e ∙ select-writes (w .format) (w .session) (w .command .p2) (w .row) (w .found)
 
 response-free : (i : ℕ) (w : Situation) → i ≡ ins.getResponse → doneBy i w .writes ≡ []
 unfolding doneBy getResponse pick
 response-free i w e = ap (λ (k : ℕ). doneBy k w .writes) e
 
-module _ (format : Format) (domain : ℕ) (c : Command) («data» : List ℕ) (s : Session) (card : Card) (parts : Parts (card .table) (card .files) (card .journal)) where
+module _ (format : Format) (domain : ℕ) (c : Command) («data» : List ℕ) (s : Standing) (card : Card) (parts : Parts (card .table) (card .files) (card .journal)) where
   abbrev Room : List Write → Type 0
   Room ws = HasRoom (card .journal) (cost ws)
 

@@ -5,9 +5,9 @@ use mathlib.Core.Option.{Option, none, some}
 use Rattle.octets.specs.Bytes.{overwrite}
 use Rattle.card.specs.Row.{Card}
 use Rattle.journal.specs.Changes.{perform}
-use Rattle.session.specs.declared.Session.{Session}
+use Rattle.session.specs.declared.Standing.{Standing}
 use Rattle.session.specs.Session.{start, startWaiting}
-use Rattle.session.specs.Select.{find}
+use Rattle.session.specs.Select.{find, rowFound}
 use Rattle.command.specs.declared.Format.{Format}
 use Rattle.command.specs.declared.Command.{Command}
 use Rattle.command.specs.declared.Outcome.{Outcome}
@@ -19,11 +19,11 @@ use Rattle.command.specs.Plans.{Situation, doneBy}
 use Rattle.command.specs.Checks.{Check, order, checkWord, firstFailing}
 
 -- the entry that a command works on
-abbrev pub target : Session → ℕ
+abbrev pub target : Standing → ℕ
 target s = s .file
 
 -- the situation of a command on a card
-unfoldable pub situation : Format → ℕ → Command → List ℕ → Session → Card → Situation
+unfoldable pub situation : Format → ℕ → Command → List ℕ → Standing → Card → Situation
 situation format domain c «data» s card =
     record {
       format = format;
@@ -31,8 +31,8 @@ situation format domain c «data» s card =
       command = c;
       «data» = «data»;
       session = s;
-      table = card .table;
       found = find (card .table) (s .root) (s .directory) (c .p1) «data»;
+      row = rowFound (card .table) (find (card .table) (s .root) (s .directory) (c .p1) «data»);
       file = fileAt card (target s);
     }
 
@@ -47,7 +47,7 @@ planned w = decided w (firstFailing w (order (w .command .instruction)))
 
 -- a session, an outcome, the waiting bytes and a card after a command
 pub record Moved : Type 0 where
-  pub session : Session
+  pub session : Standing
   pub outcome : Outcome
   pub waiting : List ℕ
   pub card : Card

@@ -7,7 +7,7 @@ pub mod records;
 pub mod search;
 pub mod sum;
 
-use session::Session;
+use session::Standing;
 
 // The format of a script and of its answer.
 pub enum Format {
@@ -46,7 +46,7 @@ pub enum Outcome {
 
 // A script after some commands: the session, how the last command ended, and how many there were.
 pub struct Step {
-    pub session: Session,
+    pub session: Standing,
     pub outcome: Outcome,
     pub count: usize,
 }

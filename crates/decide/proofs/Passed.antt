@@ -18,7 +18,7 @@ use Rattle.card.specs.Sound.{recordCount, ownSound}
 use Rattle.card.proofs.Promises.{some-entries, few-entries, cyclic-records, file-inside, record-some, records-some, records-few, entry-own}
 use Rattle.journal.specs.Entries.{usedBytes, room, HasRoom}
 use Rattle.journal.proofs.Parts.{Parts, card-table, card-parts, used-inside, room-left}
-use Rattle.session.specs.declared.Session.{Session}
+use Rattle.session.specs.declared.Standing.{Standing}
 use Rattle.command.specs.declared.Format.{Format}
 use Rattle.command.specs.declared.Format.the-variants.{Compact}
 use Rattle.command.specs.declared.Command.{Command}
@@ -39,7 +39,7 @@ use Rattle.decide.specs.Decisions.{roomed, Able, Ready, Unroomed, Decide
 use Rattle.decide.proofs.Plans.{check-fails, bounds-hold, roomless-done, room-behind, Fails, roomed-inside, plain-sum}
 
 -- what is known of a file command and its file's row once the checks up to the lengths hold
-pub record Known (files : ℕ) (c : Command) (lc : ℕ) (s : Session) (r : Row) : Type 0 where
+pub record Known (files : ℕ) (c : Command) (lc : ℕ) (s : Standing) (r : Row) : Type 0 where
   pub inside : r .start + r .size ≤ files
   pub recorded : hasRecords r ≡ true → Recorded files r
   pub kind : kindFits (c .instruction) r ≡ true
@@ -48,7 +48,7 @@ pub record Known (files : ℕ) (c : Command) (lc : ℕ) (s : Session) (r : Row) 
   pub length : lengthFits (c .instruction) (offsetOf c) (c .p3) lc r ≡ true
 
 -- what that gives to the instructions
-module _ {files lc : ℕ} {c : Command} {s : Session} {r : Row} (p : Known files c lc s r) where
+module _ {files lc : ℕ} {c : Command} {s : Standing} {r : Row} (p : Known files c lc s r) where
   pub to-read : c .instruction ≡ ins.readBinary → offsetOf c < r .size
   to-read e = offset-read (c .instruction) r (offsetOf c) e (p .offset)
 
@@ -76,7 +76,7 @@ module _ {files lc : ℕ} {c : Command} {s : Session} {r : Row} (p : Known files
       on-pick (Fits t files lc) (isCyclic r) _ _ (λ y. (newest-fits t files (s .file) r has h, l)) (λ n. (p .inside, omega arith))
 
 -- what a card that is ready has
-module _ {card : Card} {s : Session} {c : Command} {lc : ℕ} (ready : Ready card s c lc) where
+module _ {card : Card} {s : Standing} {c : Command} {lc : ℕ} (ready : Ready card s c lc) where
   pub able : Able (card .table) (card .files) s c lc
   able = record { table = card-table card (ready .sound); good = ready .good; bytes = ready .bytes }
 
@@ -87,7 +87,7 @@ module _ {card : Card} {s : Session} {c : Command} {lc : ℕ} (ready : Ready car
   journal-inside = omega (arith, used-inside (card .table) (card .files) (card .journal) journal-parts)
 
 -- what a sound table and a good session give
-module _ {t files : List ℕ} {s : Session} {c : Command} {lc : ℕ} (can : Able t files s c lc) where
+module _ {t files : List ℕ} {s : Standing} {c : Command} {lc : ℕ} (can : Able t files s c lc) where
   file-here : s .file < entries t
   file-here = ⊎-elim (λ z. let h = some-entries t files (can .table) in omega arith) (λ p. can .good .file p .belongs .inside) (eq-zero-or-pos (s .file))
 
@@ -153,30 +153,30 @@ unfolding doneBy pick
 activates = record { done = λ w. refl; plain = refl; byte = omega arith }
 
 -- what `row_at` says of the file's row, and `checked` of the word of the checks up to the lengths, with so many data bytes
-abbrev pub Read : List ℕ → Session → Row → Type 0
+abbrev pub Read : List ℕ → Standing → Row → Type 0
 Read t s r = (r ≡ rowOf t (s .file)) × Narrow r
 
-abbrev pub Told : ℕ → Command → ℕ → Session → Row → ℕ → Type 0
+abbrev pub Told : ℕ → Command → ℕ → Standing → Row → ℕ → Type 0
 Told domain c lc s r word = FirstWord (formalChecks ++ boundChecks) (Whole c lc domain (s .file) (s .number) r) word
 
 -- a command's own situation is one of these
-pub own-formal : (format : Format) (domain : ℕ) (c : Command) («data» : List ℕ) (s : Session) (card : Card) → Formal c (length «data») domain (situation format domain c «data» s card)
+pub own-formal : (format : Format) (domain : ℕ) (c : Command) («data» : List ℕ) (s : Standing) (card : Card) → Formal c (length «data») domain (situation format domain c «data» s card)
 unfolding situation
 own-formal format domain c «data» s card = (record { command = refl; count = refl }, refl)
 
-own-situation : (format : Format) (domain : ℕ) (c : Command) («data» : List ℕ) (s : Session) (t files journal : List ℕ) {r : Row} → Read t s r → Whole c (length «data») domain (s .file) (s .number) r (situation format domain c «data» s (lent t files journal))
+own-situation : (format : Format) (domain : ℕ) (c : Command) («data» : List ℕ) (s : Standing) (t files journal : List ℕ) {r : Row} → Read t s r → Whole c (length «data») domain (s .file) (s .number) r (situation format domain c «data» s (lent t files journal))
 unfolding situation fileAt
 own-situation format domain c «data» s t files journal row =
     (own-formal format domain c «data» s (lent t files journal), record { file = refl; number = refl; row = sym (row .0) })
 
 -- what is known where the word is 0
-pub check-passed : {domain : ℕ} {c : Command} («data» : List ℕ) {s : Session} {t files : List ℕ} {r : Row} {word : ℕ} → Read t s r → Told domain c (length «data») s r word → word ≡ 0 → Able t files s c (length «data») → Known (length files) c (length «data») s r
+pub check-passed : {domain : ℕ} {c : Command} («data» : List ℕ) {s : Standing} {t files : List ℕ} {r : Row} {word : ℕ} → Read t s r → Told domain c (length «data») s r word → word ≡ 0 → Able t files s c (length «data») → Known (length files) c (length «data») s r
 check-passed {domain} {c} «data» {s} {t} {files} row told zero can =
     let w = situation Compact domain c «data» s (lent t files []) in
     let so = own-situation Compact domain c «data» s t files [] row in
     passed can (row .0) (row .1) w (so .0 .0, so .1) (bounds-hold w (sym zero ∙ told w so))
 
-module _ {domain : ℕ} {c : Command} {«data» : List ℕ} {s : Session} {t files : List ℕ} {r : Row} {word : ℕ} (row : Read t s r) (told : Told domain c (length «data») s r word) where
+module _ {domain : ℕ} {c : Command} {«data» : List ℕ} {s : Standing} {t files : List ℕ} {r : Row} {word : ℕ} (row : Read t s r) (told : Told domain c (length «data») s r word) where
   -- what comes of a check that fails
   pub check-failed : (word ≡ 0 → ⊥) → {d : Decision} → Fails s word d → (format : Format) (bytes : List ℕ) → Unroomed format domain c «data» s t files bytes d
   unfolding situation fileAt
@@ -211,10 +211,10 @@ module _ {domain : ℕ} {c : Command} {«data» : List ℕ} {s : Session} {t fil
         check-plainly (this .plain) (λ journal. does .0 «data» bytes _ refl ∙ sym (this .done _)) (rw (does .1) (state-inside can, this .byte))
 
 -- with the journal's room: what `with_room` gives, and what it comes to
-abbrev pub WithRoom : Decision → Session → ℕ → ℕ → ℕ → Decision → Type 0
+abbrev pub WithRoom : Decision → Standing → ℕ → ℕ → ℕ → Decision → Type 0
 WithRoom d s lc used left e = (((«data» bytes : List ℕ) → length «data» ≡ lc → length bytes ≡ 255 → planOf e «data» bytes ≡ roomed used left s (planOf d «data» bytes)) × ((t f : ℕ) → Fits t f lc (d .change) → Fits t f lc (e .change)))
 
-pub room-decided : (format : Format) (domain : ℕ) (c : Command) («data» : List ℕ) (s : Session) (t files journal bytes : List ℕ) {d e : Decision} {used left : ℕ} → Ready (lent t files journal) s c (length «data») → eqb (c .instruction) ins.select ≡ false → eqb (c .instruction) ins.getResponse ≡ false → used ≡ usedBytes journal → left ≡ room journal → length bytes ≡ 255 → Unroomed format domain c «data» s t files bytes d → WithRoom d s (length «data») used left e → Decided (lent t files journal) «data» bytes (planned (situation format domain c «data» s (lent t files journal))) e
+pub room-decided : (format : Format) (domain : ℕ) (c : Command) («data» : List ℕ) (s : Standing) (t files journal bytes : List ℕ) {d e : Decision} {used left : ℕ} → Ready (lent t files journal) s c (length «data») → eqb (c .instruction) ins.select ≡ false → eqb (c .instruction) ins.getResponse ≡ false → used ≡ usedBytes journal → left ≡ room journal → length bytes ≡ 255 → Unroomed format domain c «data» s t files bytes d → WithRoom d s (length «data») used left e → Decided (lent t files journal) «data» bytes (planned (situation format domain c «data» s (lent t files journal))) e
 unfolding situation fileAt
 room-decided format domain c «data» s t files journal bytes ready a b u l long unroomed told =
     let inside = journal-parts ready .used in

@@ -16,7 +16,7 @@ use Rattle.card.specs.declared.tree.Found.the-variants as Found
 use Rattle.card.specs.Row.{Card, rowOf}
 use Rattle.journal.specs.Entries.{HasRoom}
 use Rattle.journal.specs.Changes.{cost}
-use Rattle.session.specs.declared.Session.{Session}
+use Rattle.session.specs.declared.Standing.{Standing}
 use Rattle.command.specs.Instructions as ins
 use Rattle.command.specs.Instructions.{isKnown}
 use Rattle.command.specs.Outcomes.{Plan, failed}
@@ -142,10 +142,10 @@ module _ (w : Situation) where
     unfolding isFound
     select-lost g = sym (select-behind ∙ pick-false _ _ _ (ap isFound g))
 
-    pub select-found : (e : ℕ) → w .found ≡ Found.At e → w .command .instruction ≡ ins.select → selectEntry (w .format) (w .session) (w .command .p2) e (rowOf (w .table) e) ≡ decided w (firstFailing w selectChecks)
+    pub select-found : (e : ℕ) → w .found ≡ Found.At e → w .command .instruction ≡ ins.select → selectEntry (w .format) (w .session) (w .command .p2) e (w .row) ≡ decided w (firstFailing w selectChecks)
     unfolding isFound doneBy select pick
     select-found e g k =
-        sym (select-behind ∙ pick-true _ _ _ (ap isFound g) ∙ ap (λ (i : ℕ). doneBy i w) k ∙ ap (select (w .format) (w .session) (w .command .p2) (w .table)) g)
+        sym (select-behind ∙ pick-true _ _ _ (ap isFound g) ∙ ap (λ (i : ℕ). doneBy i w) k ∙ ap (select (w .format) (w .session) (w .command .p2) (w .row)) g)
 
 -- GET RESPONSE
 done-response : (w : Situation) (i : ℕ) → i ≡ ins.getResponse → doneBy i w ≡ getResponse (w .command) (w .session)
@@ -186,7 +186,7 @@ module _ (w : Situation) where
     roomless-done = sym (ap (decided w) (first-behind w (formalChecks ++ boundChecks) (sumTooLong ∷ []) check-holds) ∙ one-check w sumTooLong)
 
 -- a file command with the journal's room
-module _ (s : Session) (used room : ℕ) (h : used ≤ room) where
+module _ (s : Standing) (used room : ℕ) (h : used ≤ room) where
   room-failed : (word : ℕ) → roomed used room s (failed s word) ≡ failed s word
   unfolding roomed failed cost
   room-failed word = pick-true (leb (used + 0) room) _ _ (le-leb (used + 0) room (omega arith))
@@ -214,7 +214,7 @@ module _ (w : Situation) (inside : w .file .used ≤ w .file .room) where
       ∙ ap (λ (ks : List Check). decided w (firstFailing w (formalChecks ++ ks))) (sym (later-file (w .command .instruction) a b))
 
 -- what `plan::failed` says of its decision
-abbrev pub Fails : Session → ℕ → Decision → Type 0
+abbrev pub Fails : Standing → ℕ → Decision → Type 0
 Fails s word d = ((«data» bytes : List ℕ) → planOf d «data» bytes ≡ failed s word) × (d .change ≡ Nothing)
 
 -- a decision that writes nothing, where the journal's used bytes are inside its room
@@ -227,11 +227,11 @@ nothing-decided card «data» bytes plan d h e n =
       journal = rw (← e, n) h;
     }
 
-pub roomed-inside : (used room : ℕ) (s : Session) (p : Plan) {plan : Plan} → roomed used room s p ≡ plan → used ≤ room → used + cost (plan .writes) ≤ room
+pub roomed-inside : (used room : ℕ) (s : Standing) (p : Plan) {plan : Plan} → roomed used room s p ≡ plan → used ≤ room → used + cost (plan .writes) ≤ room
 unfolding roomed failed cost
 roomed-inside used room s p e h = rw (← e) (on-pick (λ (q : Plan). used + cost (q .writes) ≤ room) (leb (used + cost (p .writes)) room) _ _ (λ y. leb-true _ _ y) (λ n. omega arith))
 
 -- the sum's check is INCREASE's alone
-pub plain-sum : (i : ℕ) (f : File) («data» : List ℕ) (s : Session) (p : Plan) → eqb i ins.increase ≡ false → summed i f «data» s p ≡ p
+pub plain-sum : (i : ℕ) (f : File) («data» : List ℕ) (s : Standing) (p : Plan) → eqb i ins.increase ≡ false → summed i f «data» s p ≡ p
 unfolding summed sumFits
 plain-sum i f «data» s p h = pick-true _ p _ (rw h)

@@ -11,7 +11,7 @@ use Rattle.card.specs.Sound.{soundTable}
 use Rattle.journal.specs.Entries.{HasRoom}
 use Rattle.journal.specs.Sound.{soundCard}
 use Rattle.journal.specs.Changes.{cost}
-use Rattle.session.specs.declared.Session.{Session}
+use Rattle.session.specs.declared.Standing.{Standing}
 use Rattle.session.specs.Good.{Good}
 use Rattle.command.specs.declared.Format.{Format}
 use Rattle.command.specs.declared.Command.{Command}
@@ -23,11 +23,11 @@ use Rattle.plan.specs.declared.Decision.{Decision}
 use Rattle.plan.specs.Decisions.{planOf, Fits}
 
 -- a plan behind the check of the journal's room
-unfoldable pub roomed : ℕ → ℕ → Session → Plan → Plan
+unfoldable pub roomed : ℕ → ℕ → Standing → Plan → Plan
 roomed used room s plan = pick (leb (used + cost (plan .writes)) room) plan (failed s (checkWord journalFull))
 
 -- GET RESPONSE behind the formal checks
-unfoldable pub responded : Command → Session → Plan
+unfoldable pub responded : Command → Standing → Plan
 responded c s =
     pick (leb 1 (s .valid))
     (pick (leb (c .p3) (s .valid)) (getResponse c s) (failed s (checkWord moreThanWaits)))
@@ -42,19 +42,19 @@ unfoldable pub roomless : Situation → Plan
 roomless w = decided w (firstFailing w (formalChecks ++ (boundChecks ++ (sumTooLong ∷ []))))
 
 -- what a file command may go by: the table is sound, the session good, and the command's numbers are bytes
-pub record Able (t files : List ℕ) (s : Session) (c : Command) (lc : ℕ) : Type 0 where
+pub record Able (t files : List ℕ) (s : Standing) (c : Command) (lc : ℕ) : Type 0 where
   pub table : soundTable t files ≡ true
   pub good : Good t s
   pub bytes : OfBytes c lc
 
 -- what deciding a command may go by: the card is sound, the session good, and the command's numbers are bytes
-pub record Ready (card : Card) (s : Session) (c : Command) (lc : ℕ) : Type 0 where
+pub record Ready (card : Card) (s : Standing) (c : Command) (lc : ℕ) : Type 0 where
   pub sound : soundCard card ≡ true
   pub good : Good (card .table) s
   pub bytes : OfBytes c lc
 
 -- what is decided of a file command but for the journal's room, whatever the journal is: it lies inside the card
-pub record Unroomed (format : Format) (domain : ℕ) (c : Command) («data» : List ℕ) (s : Session) (t files bytes : List ℕ) (d : Decision) : Type 0 where
+pub record Unroomed (format : Format) (domain : ℕ) (c : Command) («data» : List ℕ) (s : Standing) (t files bytes : List ℕ) (d : Decision) : Type 0 where
   pub same : (journal : List ℕ) → planOf d «data» bytes ≡ roomless (situation format domain c «data» s (lent t files journal))
   pub fits : Fits (length t) (length files) (length «data») (d .change)
 

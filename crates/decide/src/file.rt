@@ -16,7 +16,7 @@ use command::instruction::UPDATE_RECORD;
 use plan::Decision;
 use plan::does;
 use plan::failed;
-use session::Session;
+use session::Standing;
 ghost use mathlib.Core.Path.{_≡_};
 ghost use mathlib.Core.List.{List, _++_};
 ghost use Prim.Native.Nat.{ℕ};
@@ -26,7 +26,7 @@ ghost use Rattle.command.specs.Checks as checks-spec;
 ghost use Rattle.decide.specs.Decisions.{Able, Unroomed};
 
 // The word of the first check of a file command that fails, up to the lengths, or 0.
-fn checked(i: usize, c: Command, lc: usize, domain: usize, s: Session, r: Row) -> usize
+fn checked(i: usize, c: Command, lc: usize, domain: usize, s: Standing, r: Row) -> usize
     requires { ⌜ checks-spec.Checkable i c lc r ⌝ }
     ensures { λ n. ⌜ checks-spec.FirstWord (checks-spec.formalChecks ++ checks-spec.boundChecks) (checks-spec.Whole c lc domain (s .file) (s .number) r) n ⌝ }
 {
@@ -43,7 +43,7 @@ pub fn read_binary(
     domain: usize,
     c: Command,
     data: &[u8],
-    s: Session,
+    s: Standing,
     table: &[u8],
     files: &[u8],
 ) -> Decision
@@ -63,7 +63,7 @@ pub fn update_binary(
     domain: usize,
     c: Command,
     data: &[u8],
-    s: Session,
+    s: Standing,
     table: &[u8],
     files: &[u8],
 ) -> Decision
@@ -83,7 +83,7 @@ pub fn read_record(
     domain: usize,
     c: Command,
     data: &[u8],
-    s: Session,
+    s: Standing,
     table: &[u8],
     files: &[u8],
 ) -> Decision
@@ -103,7 +103,7 @@ pub fn update_record(
     domain: usize,
     c: Command,
     data: &[u8],
-    s: Session,
+    s: Standing,
     table: &[u8],
     files: &[u8],
 ) -> Decision
@@ -124,7 +124,7 @@ pub fn search(
     domain: usize,
     c: Command,
     data: &[u8],
-    s: Session,
+    s: Standing,
     table: &[u8],
     files: &[u8],
     made: &mut [u8],
@@ -146,7 +146,7 @@ pub fn increase(
     domain: usize,
     c: Command,
     data: &[u8],
-    s: Session,
+    s: Standing,
     table: &[u8],
     files: &[u8],
     made: &mut [u8],
@@ -167,7 +167,7 @@ pub fn deactivate(
     domain: usize,
     c: Command,
     data: &[u8],
-    s: Session,
+    s: Standing,
     table: &[u8],
     files: &[u8],
 ) -> Decision
@@ -187,7 +187,7 @@ pub fn activate(
     domain: usize,
     c: Command,
     data: &[u8],
-    s: Session,
+    s: Standing,
     table: &[u8],
     files: &[u8],
 ) -> Decision

@@ -21,7 +21,7 @@ use plan::Decision;
 use plan::does::select_entry;
 use plan::failed;
 use plan::waited;
-use session::Session;
+use session::Standing;
 ghost use mathlib.Core.Path.{_≡_};
 ghost use mathlib.Core.List.{List};
 ghost use Prim.Native.Nat.{ℕ, _≤_, _<_};
@@ -30,7 +30,7 @@ ghost use Rattle.card.specs.Row.{lent, entries, rowOf};
 ghost use Rattle.card.specs.Tree.{ParentsInside};
 ghost use Rattle.journal.specs.Changes.{cost};
 ghost use Rattle.session.specs.Fcp.{FcpFits};
-ghost use Rattle.session.specs.Select.{find};
+ghost use Rattle.session.specs.Select.{find, rowFound};
 ghost use Rattle.command.specs.Instructions as ins;
 ghost use Rattle.command.specs.Plans.{Situation};
 ghost use Rattle.command.specs.Checks as checks-spec;
@@ -39,7 +39,7 @@ ghost use Rattle.plan.specs.Decisions.{writesOf, planOf, Fits, Brief};
 ghost use Rattle.decide.specs.Decisions.{roomed, responded, Ready, Decided};
 
 // GET RESPONSE.
-fn get_response(c: Command, s: Session) -> Decision
+fn get_response(c: Command, s: Standing) -> Decision
     ensures { λ d. ⌜ ((«data» bytes : List ℕ) → planOf d «data» bytes ≡ responded c s) × (d .change ≡ Change.Nothing) ⌝ }
 {
     let valid = s.valid as usize;
@@ -61,12 +61,12 @@ fn decide_select(
     format: Format,
     c: Command,
     data: &[u8],
-    s: Session,
+    s: Standing,
     table: &[u8],
     made: &mut [u8],
 ) -> Decision
     requires { ⌜ (length (now made) ≡ 255) × (c .instruction ≡ ins.select) × ((e : ℕ) → find (now table) (s .root) (s .directory) (c .p1) (now «data») ≡ Found.At e → (e < entries (now table)) × (e < 256) × FcpFits (rowOf (now table) e)) × (s .root < entries (now table)) × (s .directory < entries (now table)) × ParentsInside (now table) ⌝ }
-    ensures { λ d. ⌜ ((w : Situation) → w .format ≡ format → w .command ≡ c → w .«data» ≡ now («data» .entry) → w .session ≡ s → w .table ≡ now (table .entry) → w .found ≡ find (now (table .entry)) (s .root) (s .directory) (c .p1) (now («data» .entry)) → planOf d (now («data» .entry)) (now (made .exit)) ≡ decided w (checks-spec.firstFailing w checks-spec.selectChecks)) × (d .change ≡ Change.Nothing) ⌝ }
+    ensures { λ d. ⌜ ((w : Situation) → w .format ≡ format → w .command ≡ c → w .«data» ≡ now («data» .entry) → w .session ≡ s → w .found ≡ find (now (table .entry)) (s .root) (s .directory) (c .p1) (now («data» .entry)) → w .row ≡ rowFound (now (table .entry)) (find (now (table .entry)) (s .root) (s .directory) (c .p1) (now («data» .entry))) → planOf d (now («data» .entry)) (now (made .exit)) ≡ decided w (checks-spec.firstFailing w checks-spec.selectChecks)) × (d .change ≡ Change.Nothing) ⌝ }
 {
     if !path_length_fits(c.p1, data.len()) {
         return failed(s, 0x6700);
@@ -98,7 +98,7 @@ fn cost_of(change: Change, lc: usize) -> usize
 }
 
 // A decision, or 6581 where the journal has no room for what it writes.
-fn with_room(d: Decision, s: Session, lc: usize, used: usize, room: usize) -> Decision
+fn with_room(d: Decision, s: Standing, lc: usize, used: usize, room: usize) -> Decision
     requires { ⌜ (lc < 256) × (used < 65536) × (used ≤ room) × Brief (d .change) ⌝ }
     ensures { λ r. ⌜ ((«data» bytes : List ℕ) → length «data» ≡ lc → length bytes ≡ 255 → planOf r «data» bytes ≡ roomed used room s (planOf d «data» bytes)) × ((t f : ℕ) → Fits t f lc (d .change) → Fits t f lc (r .change)) ⌝ }
 {
@@ -115,7 +115,7 @@ pub fn decide(
     domain: usize,
     c: Command,
     data: &[u8],
-    s: Session,
+    s: Standing,
     table: &[u8],
     files: &[u8],
     journal: &[u8],

@@ -7,7 +7,7 @@ use Rattle.card.specs.Row.{Card}
 use Rattle.journal.specs.Changes.{withMark}
 use Rattle.tlv.specs.Templates.{templateOf}
 use Rattle.journal.proofs.Undone.{back-mark}
-use Rattle.session.specs.declared.Session.{Session}
+use Rattle.session.specs.declared.Standing.{Standing}
 use Rattle.session.specs.Session.{start, startWaiting}
 use Rattle.command.specs.declared.Format.{Format}
 use Rattle.command.specs.declared.Format.the-variants.{Compact, Expanded}
@@ -33,7 +33,7 @@ module _ (a : Arguments) (c : Card) (small : InBytes (running a)) (ok : number (
       rw (back-mark c (is-sound c a free) (mark-room c a free)) at (starts-holds (withMark c) (a .application) (marked-starts c a free))
 
   -- and what holds at the script's start holds at its end
-  ends : (f : Format) → (s : Session) × (waiting : List ℕ) × Holds c s waiting (runScript f a (withMark c) .card)
+  ends : (f : Format) → (s : Standing) × (waiting : List ℕ) × Holds c s waiting (runScript f a (withMark c) .card)
   unfolding runScript accepted
   ends Compact = (_, _, compact.run-keeps (a .script) small c (a .application) (a .domain) _ begins)
   ends Expanded = (_, _, expanded.run-keeps (a .script) small c (templateOf (a .script)) (a .application) (a .domain) _ begins)

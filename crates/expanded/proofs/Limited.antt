@@ -13,7 +13,7 @@ use Rattle.octets.proofs.Picks.{on-pick, or-none}
 use Rattle.card.specs.Row.{Card}
 use Rattle.tlv.specs.Lengths.{lengthBytes}
 use Rattle.journal.specs.Sound.{soundCard}
-use Rattle.session.specs.declared.Session.{Session}
+use Rattle.session.specs.declared.Standing.{Standing}
 use Rattle.session.specs.Session.{mostWaiting}
 use Rattle.session.specs.Good.{Good}
 use Rattle.command.specs.declared.Format.the-variants.{Expanded}
@@ -26,7 +26,7 @@ use Rattle.step.specs.Limits.{rapduSize, mostKept, limited}
 use Rattle.step.proofs.Limited.{passes, by-passing}
 use Rattle.expanded.specs.Expanded.{keeps, roomToGather}
 
-module _ (kept : ℕ) (counts : Bool) (s : Session) (few : kept ≤ mostKept) where
+module _ (kept : ℕ) (counts : Bool) (s : Standing) (few : kept ≤ mostKept) where
   -- a command on a sound card: its outcome, the waiting bytes, and the room of its R-APDU behind those kept
   module _ (card : Card) (sound : soundCard card ≡ true) (good : Good (card .table) s) (domain : ℕ) (c : Command) («data» : List ℕ) (brief : length «data» ≤ 255) (p3 : c .p3 < 256) (waiting : List ℕ) where
     abbrev plan : Plan

@@ -8,7 +8,7 @@ use lib.Seq.{take-at}
 use lib.Dec.{eqb}
 use Rattle.octets.specs.Bytes.{byte, overwrite}
 use Rattle.octets.proofs.Picks.{on-pick}
-use Rattle.session.specs.declared.Session.{Session}
+use Rattle.session.specs.declared.Standing.{Standing}
 use Rattle.session.specs.Session.{atRecord}
 use Rattle.command.specs.declared.Format.{Format}
 use Rattle.command.specs.Outcomes.{done, produced, normal, endOfData}
@@ -26,7 +26,7 @@ unfolding overwrite
 write-short m d h = omega (arith, simp (length-append, length-drop) at h)
 
 -- what SEARCH found
-module _ (format : Format) (s : Session) where
+module _ (format : Format) (s : Standing) where
   pub searched-none : (found : List ℕ) → length found ≡ 0 → done s endOfData [] ≡ searched format s found
   unfolding searched
   searched-none [] h = refl

@@ -16,7 +16,7 @@ use Rattle.octets.proofs.Writes.{part-lent, lent-part, part-length, write-two}
 use Rattle.octets.proofs.Numbers.{bytesOf-length}
 use Rattle.card.specs.declared.Row.{Row}
 use Rattle.card.specs.Records.{recordOffset}
-use Rattle.session.specs.declared.Session.{Session}
+use Rattle.session.specs.declared.Standing.{Standing}
 use Rattle.command.specs.Instructions as ins
 use Rattle.command.specs.Outcomes.{Plan, failed}
 use Rattle.command.specs.Files.{File, recordBytes, sum, writeIn, newRecord}
@@ -41,7 +41,7 @@ first-length files r off inside lies =
     rw (part-lent files (r .start + off) (r .«record»)) (part-length files (r .start + off) (r .«record») (omega arith))
 
 -- the file that INCREASE works on
-pub record Raised (files : List ℕ) (s : Session) (r : Row) (off : ℕ) (f : File) : Type 0 where
+pub record Raised (files : List ℕ) (s : Standing) (r : Row) (off : ℕ) (f : File) : Type 0 where
   pub at : off ≡ recordOffset r 1
   pub inside : off + r .«record» ≤ r .size
   pub lies : r .start + r .size ≤ length files
@@ -49,7 +49,7 @@ pub record Raised (files : List ℕ) (s : Session) (r : Row) (off : ℕ) (f : Fi
   pub entry : f .entry ≡ s .file
   pub content : f .content ≡ part files (r .start) (r .size)
 
-module _ {files : List ℕ} {s : Session} {r : Row} {off : ℕ} {f : File} (h : Raised files s r off f) («data» : List ℕ) where
+module _ {files : List ℕ} {s : Standing} {r : Row} {off : ℕ} {f : File} (h : Raised files s r off f) («data» : List ℕ) where
   abbrev added : ℕ
   added = value (first files r off) + value «data»
 

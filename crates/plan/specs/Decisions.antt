@@ -8,7 +8,7 @@ use Rattle.card.specs.declared.Row.{Row}
 use Rattle.card.specs.Row.{Card, isCyclic, placeOfNewest}
 use Rattle.card.specs.Records.{recordOffset, oldestPlace}
 use Rattle.journal.specs.Changes.{Write, fileMemory, tableMemory}
-use Rattle.session.specs.declared.Session.{Session}
+use Rattle.session.specs.declared.Standing.{Standing}
 use Rattle.command.specs.declared.Command.{Command}
 use Rattle.command.specs.declared.Outcome.{Outcome}
 use Rattle.command.specs.Outcomes.{Plan, failed}
@@ -68,14 +68,14 @@ newestOf file r =
     record { entry = file; start = r .start; size = r .size; «record» = r .«record»; place = oldestPlace r }
 
 -- what DC writes
-unfoldable pub updateChange : Command → Session → Row → Change
+unfoldable pub updateChange : Command → Standing → Row → Change
 updateChange c s r =
     pick (isCyclic r)
     (DataRecord (newestOf (s .file) r))
     (Content (r .start) (r .size) (recordOffset r (namedBy c (s .number) r)))
 
 -- a plan behind the check of a file command's sum
-unfoldable pub summed : ℕ → File → List ℕ → Session → Plan → Plan
+unfoldable pub summed : ℕ → File → List ℕ → Standing → Plan → Plan
 summed i f «data» s plan = pick (sumFits i f «data») plan (failed s (checkWord sumTooLong))
 
 -- a sum has no more bytes than can wait
@@ -87,5 +87,5 @@ Brief (SumRecord r) = r .«record» ≤ 255
 Brief (TableByte place new) = Unit
 
 -- a session, an outcome, the waiting bytes and a card after a command
-abbrev pub movedTo : Session → Outcome → List ℕ → Card → Moved
+abbrev pub movedTo : Standing → Outcome → List ℕ → Card → Moved
 movedTo s outcome waiting card = record { session = s; outcome = outcome; waiting = waiting; card = card }

@@ -12,7 +12,7 @@ use command::Format;
 use command::instruction::NO_DATA;
 use command::records::number_after;
 use command::records::record_of;
-use session::Session;
+use session::Standing;
 ghost use mathlib.Core.Path.{_≡_};
 ghost use mathlib.Core.Bool.{false};
 ghost use mathlib.Core.List.{List};
@@ -40,7 +40,7 @@ fn select_word(r: Row) -> usize
 // SELECT of an entry with its row.
 pub fn select_entry(
     format: Format,
-    s: Session,
+    s: Standing,
     p2: usize,
     e: usize,
     r: Row,
@@ -79,7 +79,7 @@ fn least(a: usize, b: usize) -> usize
 }
 
 // READ BINARY.
-pub fn read_binary(format: Format, c: Command, s: Session, r: Row) -> Decision
+pub fn read_binary(format: Format, c: Command, s: Standing, r: Row) -> Decision
     requires { ⌜ Narrow r × (c .p1 < 256) × (c .p2 < 256) × (plans.offsetOf c < r .size) ⌝ }
     ensures { λ d. ⌜ ((«data» bytes : List ℕ) (f : File) → f .row ≡ r → planOf d «data» bytes ≡ plans.readBinary format c s f) × (d .change ≡ Change.Nothing) ⌝ }
 {
@@ -96,7 +96,7 @@ pub fn read_binary(format: Format, c: Command, s: Session, r: Row) -> Decision
 }
 
 // UPDATE BINARY.
-pub fn update_binary(c: Command, s: Session, r: Row) -> Decision
+pub fn update_binary(c: Command, s: Standing, r: Row) -> Decision
     requires { ⌜ (c .p1 < 256) × (c .p2 < 256) ⌝ }
     ensures { λ d. ⌜ ((«data» bytes : List ℕ) (f : File) → f .row ≡ r → planOf d «data» bytes ≡ plans.updateBinary c «data» s f) × (d .change ≡ Change.Content (r .start) (r .size) (plans.offsetOf c)) ⌝ }
 {
@@ -105,7 +105,7 @@ pub fn update_binary(c: Command, s: Session, r: Row) -> Decision
 }
 
 // READ RECORD.
-pub fn read_record(c: Command, s: Session, r: Row) -> Decision
+pub fn read_record(c: Command, s: Standing, r: Row) -> Decision
     requires { ⌜ Narrow r × (1 ≤ r .«record») × (recordCount r < 256) × (1 ≤ plans.namedBy c (s .number) r) × (plans.namedBy c (s .number) r ≤ recordCount r) ⌝ }
     ensures { λ d. ⌜ ((«data» bytes : List ℕ) (f : File) → f .row ≡ r → planOf d «data» bytes ≡ plans.readRecord c s f) × (d .change ≡ Change.Nothing) ⌝ }
 {
@@ -131,7 +131,7 @@ fn new_record(file: usize, r: Row) -> NewRecord
 }
 
 // UPDATE RECORD.
-pub fn update_record(c: Command, s: Session, r: Row) -> Decision
+pub fn update_record(c: Command, s: Standing, r: Row) -> Decision
     requires { ⌜ Narrow r × (1 ≤ r .«record») × (1 ≤ recordCount r) × (recordCount r < 256) × (isCyclic r ≡ false → (1 ≤ plans.namedBy c (s .number) r) × (plans.namedBy c (s .number) r ≤ recordCount r)) ⌝ }
     ensures { λ d. ⌜ ((«data» bytes : List ℕ) (f : File) → f .row ≡ r → f .entry ≡ s .file → planOf d «data» bytes ≡ plans.updateRecord c «data» s f) × (d .change ≡ updateChange c s r) ⌝ }
 {
@@ -155,7 +155,7 @@ pub fn search_records(
     format: Format,
     c: Command,
     data: &[u8],
-    s: Session,
+    s: Standing,
     r: Row,
     files: &[u8],
     made: &mut [u8],
@@ -176,7 +176,7 @@ pub fn search_records(
 pub fn increase(
     format: Format,
     data: &[u8],
-    s: Session,
+    s: Standing,
     r: Row,
     files: &[u8],
     made: &mut [u8],
@@ -203,7 +203,7 @@ pub fn increase(
 }
 
 // DEACTIVATE and ACTIVATE: the state that the file gets.
-pub fn switch(state: usize, s: Session) -> Decision
+pub fn switch(state: usize, s: Standing) -> Decision
     requires { ⌜ s .file < 64 ⌝ }
     ensures { λ d. ⌜ ((«data» bytes : List ℕ) (f : File) → f .entry ≡ s .file → planOf d «data» bytes ≡ plans.switch state s f) × (d .change ≡ Change.TableByte (placeOfState (s .file)) state) ⌝ }
 {

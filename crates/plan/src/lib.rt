@@ -4,7 +4,7 @@ pub mod does;
 
 use command::Format;
 use command::Outcome;
-use session::Session;
+use session::Standing;
 ghost use mathlib.Core.Path.{_≡_};
 ghost use mathlib.Core.List.{List};
 ghost use Prim.Native.Nat.{ℕ, _≤_, _<_};
@@ -34,14 +34,14 @@ pub enum Change {
 
 // The session after a command, how it ends, how many bytes it made that go to the waiting ones, and what it writes.
 pub struct Decision {
-    pub session: Session,
+    pub session: Standing,
     pub outcome: Outcome,
     pub made: u8,
     pub change: Change,
 }
 
 // It ends with an error word, changing nothing.
-pub fn failed(s: Session, word: usize) -> Decision
+pub fn failed(s: Standing, word: usize) -> Decision
     ensures { λ d. ⌜ ((«data» bytes : List ℕ) → planOf d «data» bytes ≡ spec.failed s word) × (d .change ≡ Change.Nothing) ⌝ }
 {
     Decision {
@@ -53,7 +53,7 @@ pub fn failed(s: Session, word: usize) -> Decision
 }
 
 // It ends well, with a word and no data.
-pub fn done(s: Session, word: usize, change: Change) -> Decision
+pub fn done(s: Standing, word: usize, change: Change) -> Decision
     ensures { λ d. ⌜ ((«data» bytes : List ℕ) → planOf d «data» bytes ≡ spec.done s word (writesOf change «data» bytes)) × (d .change ≡ change) ⌝ }
 {
     let next = session::dropped(s);
@@ -66,7 +66,7 @@ pub fn done(s: Session, word: usize, change: Change) -> Decision
 }
 
 // It ends well, with a part of the file memory.
-pub fn handed(s: Session, word: usize, place: usize, n: usize) -> Decision
+pub fn handed(s: Standing, word: usize, place: usize, n: usize) -> Decision
     ensures { λ d. ⌜ ((«data» bytes : List ℕ) → planOf d «data» bytes ≡ spec.handed s word place n) × (d .change ≡ Change.Nothing) ⌝ }
 {
     let next = session::dropped(s);
@@ -79,7 +79,7 @@ pub fn handed(s: Session, word: usize, place: usize, n: usize) -> Decision
 }
 
 // It ends well, with the first waiting bytes, and leaves the session as it is.
-pub fn waited(s: Session, word: usize, n: usize) -> Decision
+pub fn waited(s: Standing, word: usize, n: usize) -> Decision
     ensures { λ d. ⌜ (d .session ≡ s) × (d .outcome ≡ Outcome.FromWaiting word n) × (d .made ≡ 0) × (d .change ≡ Change.Nothing) ⌝ }
 {
     Decision {
@@ -91,7 +91,7 @@ pub fn waited(s: Session, word: usize, n: usize) -> Decision
 }
 
 // It ends well, with n bytes that it made.
-pub fn produced(format: Format, s: Session, n: usize, word: usize, change: Change) -> Decision
+pub fn produced(format: Format, s: Standing, n: usize, word: usize, change: Change) -> Decision
     requires { ⌜ (n ≤ 255) × (word < 65536) ⌝ }
     ensures { λ d. ⌜ ((«data» bytes out rest : List ℕ) → bytes ≡ overwrite rest 0 out → n ≡ length out → planOf d «data» bytes ≡ spec.produced format s word out (writesOf change «data» bytes)) × (d .change ≡ change) ⌝ }
 {

@@ -18,7 +18,7 @@ use Rattle.card.specs.Sound.{recordCount, soundTable}
 use Rattle.card.specs.Tree.{isRoot, rootIn, rootOf}
 use Rattle.card.proofs.Promises.{file-kind, cyclic-records, records-some, entry-own, first-kind, no-directory-file, parent-directory}
 use Rattle.card.proofs.Kept.{Rows}
-use Rattle.session.specs.declared.Session.{Session}
+use Rattle.session.specs.declared.Standing.{Standing}
 use Rattle.session.specs.Session.{none, mostWaiting, start, waits, dropped, atRecord, moved, selected}
 use Rattle.session.specs.Select.{find}
 use Rattle.session.specs.Good.{Belongs, GoodFile, Good}
@@ -32,7 +32,7 @@ file-no-root : (r : Row) → isFile r ≡ true → isRoot r ≡ false
 file-no-root r h = let k = file-kind r h in rw (ne-eqb (r .kind) 1 (omega arith), ne-eqb (r .kind) 3 (omega arith))
 
 -- moves of a good session, and what waits
-module _ (t : List ℕ) (s : Session) (g : Good t s) where
+module _ (t : List ℕ) (s : Standing) (g : Good t s) where
   good-moved : (d f n : ℕ) → Belongs t (s .root) d → isDirectory (rowOf t d) ≡ true → (1 ≤ f → GoodFile t (s .root) f n) → (f ≡ none → n ≡ none) → Good t (moved s d f n)
   unfolding moved
   good-moved d f n b y file unnumbered =
@@ -85,7 +85,7 @@ module _ (t u : List ℕ) (rows : Rows t u) where
   unfolding rootOf
   belongs-kept root e b = record { inside = rw (rows .count) (b .inside); owner = same-root e e ∙ b .owner }
 
-  pub good-kept : (s : Session) → Good t s → Good u s
+  pub good-kept : (s : Standing) → Good t s → Good u s
   good-kept s g =
       record {
         rootInside = rw (rows .count) (g .rootInside);
@@ -118,7 +118,7 @@ module _ (t files : List ℕ) (sound : soundTable t files ≡ true) where
       }
 
   -- a selection
-  module _ (s : Session) (g : Good t s) (e : ℕ) (b : Belongs t (s .root) e) where
+  module _ (s : Standing) (g : Good t s) (e : ℕ) (b : Belongs t (s .root) e) where
     file-selected : isFile (rowOf t e) ≡ true → Good t (moved s (rowOf t e .parent) e (pick (isCyclic (rowOf t e)) 1 none))
     file-selected y =
         good-moved t s g (rowOf t e .parent) e _ (parent-belongs t files sound (s .root) e b (file-no-root (rowOf t e) y)) (parent-directory t files sound e (b .inside) other)
@@ -141,5 +141,5 @@ module _ (t files : List ℕ) (sound : soundTable t files ≡ true) where
         (λ z. file-selected (no-directory-file t files sound e (b .inside) z))
 
   -- what it finds: never the other application's
-  pub find-belongs : (s : Session) → Good t s → (p1 : ℕ) («data» : List ℕ) (e : ℕ) → find t (s .root) (s .directory) p1 «data» ≡ At e → Belongs t (s .root) e
+  pub find-belongs : (s : Standing) → Good t s → (p1 : ℕ) («data» : List ℕ) (e : ℕ) → find t (s .root) (s .directory) p1 «data» ≡ At e → Belongs t (s .root) e
   find-belongs s g = find-owned t files sound (s .root) (s .directory) (g .rootInside) (g .root) (g .directory)

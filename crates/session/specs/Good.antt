@@ -6,7 +6,7 @@ use mathlib.Core.List.{List}
 use Rattle.card.specs.Row.{entries, rowOf, isDirectory, isFile, hasRecords}
 use Rattle.card.specs.Sound.{recordCount}
 use Rattle.card.specs.Tree.{isRoot, rootOf}
-use Rattle.session.specs.declared.Session.{Session}
+use Rattle.session.specs.declared.Standing.{Standing}
 use Rattle.session.specs.Session.{none, mostWaiting}
 
 -- an entry of a table that belongs to a root
@@ -21,7 +21,7 @@ pub record GoodFile (t : List ℕ) (root file number : ℕ) : Type 0 where
   pub numbered : 1 ≤ number → hasRecords (rowOf t file) ≡ true
   pub within : 1 ≤ number → number ≤ recordCount (rowOf t file)
 
-pub record Good (t : List ℕ) (s : Session) : Type 0 where
+pub record Good (t : List ℕ) (s : Standing) : Type 0 where
   pub rootInside : s .root < entries t
   pub root : isRoot (rowOf t (s .root)) ≡ true
   pub directory : Belongs t (s .root) (s .directory)

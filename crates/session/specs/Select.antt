@@ -4,6 +4,7 @@ use mathlib.Core.List.{List, [], _∷_}
 use lib.Dec.{eqb}
 use Rattle.octets.specs.Choice.{pick}
 use Rattle.octets.specs.Bytes.{numAt}
+use Rattle.card.specs.declared.Row.{Row}
 use Rattle.card.specs.declared.tree.Found.{Found}
 use Rattle.card.specs.declared.tree.Found.the-variants.{At, Nothing}
 use Rattle.card.specs.Row.{rowOf}
@@ -38,3 +39,8 @@ find t root directory p1 «data» =
     pick (eqb p1 0)
     (byIdentifier t root directory (numAt «data» 0))
     (byPath t (pick (eqb p1 8) root directory) «data»)
+
+-- the row of what was found; where nothing was, that of the MF, which no command looks at
+unfoldable pub rowFound : List ℕ → Found → Row
+rowFound t (At e) = rowOf t e
+rowFound t Nothing = rowOf t 0

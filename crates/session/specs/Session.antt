@@ -5,7 +5,7 @@ use Rattle.octets.specs.Choice.{pick}
 use Rattle.octets.specs.Bytes.{zeros}
 use Rattle.card.specs.declared.Row.{Row}
 use Rattle.card.specs.Row.{isDirectory, isCyclic}
-use Rattle.session.specs.declared.Session.{Session}
+use Rattle.session.specs.declared.Standing.{Standing}
 
 -- how many bytes can wait
 abbrev pub mostWaiting : ℕ
@@ -17,7 +17,7 @@ none = 0
 
 -- "The root is the MF (application 0) or the named ADF; the directory is the root, no file is current, no record number,
 -- nothing waits."
-unfoldable pub start : ℕ → Session
+unfoldable pub start : ℕ → Standing
 start application =
     record {
       root = application;
@@ -33,7 +33,7 @@ unfoldable pub startWaiting : List ℕ
 startWaiting = zeros mostWaiting
 
 -- so many of the waiting bytes wait, with a word kept
-unfoldable pub waits : Session → ℕ → ℕ → Session
+unfoldable pub waits : Standing → ℕ → ℕ → Standing
 waits s valid word =
     record {
       root = s .root;
@@ -45,11 +45,11 @@ waits s valid word =
     }
 
 -- "the next command drops what waited"
-abbrev pub dropped : Session → Session
+abbrev pub dropped : Standing → Standing
 dropped s = waits s 0 0
 
 -- the record number moves
-unfoldable pub atRecord : Session → ℕ → Session
+unfoldable pub atRecord : Standing → ℕ → Standing
 atRecord s number =
     record {
       root = s .root;
@@ -61,7 +61,7 @@ atRecord s number =
     }
 
 -- directory, file and record number move
-unfoldable pub moved : Session → ℕ → ℕ → ℕ → Session
+unfoldable pub moved : Standing → ℕ → ℕ → ℕ → Standing
 moved s directory file number =
     record {
       root = s .root;
@@ -73,7 +73,7 @@ moved s directory file number =
     }
 
 -- "A directory becomes current with no file; a file makes its parent the directory. Record number: 1 for cyclic, else none."
-unfoldable pub selected : Session → ℕ → Row → Session
+unfoldable pub selected : Standing → ℕ → Row → Standing
 selected s e r =
     pick (isDirectory r)
     (moved s e none none)

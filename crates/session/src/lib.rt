@@ -9,7 +9,7 @@ ghost use Rattle.session.specs.Session as spec;
 
 // Where a script stands: entry numbers of its root, its directory and its file (0: none), the record number (0: none), how many of
 // the waiting bytes wait, and the word that is kept for them. The waiting bytes are lent beside it.
-pub struct Session {
+pub struct Standing {
     pub root: u8,
     pub directory: u8,
     pub file: u8,
@@ -19,12 +19,12 @@ pub struct Session {
 }
 
 // The session that a script of an application starts with.
-pub fn start(application: usize) -> Session
+pub fn start(application: usize) -> Standing
     requires { ⌜ application < 256 ⌝ }
     ensures { λ s. ⌜ s ≡ spec.start application ⌝ }
 {
     let root = application as u8;
-    Session {
+    Standing {
         root,
         directory: root,
         file: 0,
@@ -35,7 +35,7 @@ pub fn start(application: usize) -> Session
 }
 
 // So many bytes wait, with a word kept.
-pub fn waits(s: Session, valid: usize, word: usize) -> Session
+pub fn waits(s: Standing, valid: usize, word: usize) -> Standing
     requires { ⌜ (valid < 256) × (word < 65536) ⌝ }
     ensures { λ r. ⌜ r ≡ spec.waits s valid word ⌝ }
 {
@@ -46,14 +46,14 @@ pub fn waits(s: Session, valid: usize, word: usize) -> Session
 }
 
 // What waited is dropped.
-pub fn dropped(s: Session) -> Session
+pub fn dropped(s: Standing) -> Standing
     ensures { λ r. ⌜ r ≡ spec.dropped s ⌝ }
 {
     waits(s, 0, 0)
 }
 
 // The record number moves.
-pub fn at_record(s: Session, number: usize) -> Session
+pub fn at_record(s: Standing, number: usize) -> Standing
     requires { ⌜ number < 256 ⌝ }
     ensures { λ r. ⌜ r ≡ spec.atRecord s number ⌝ }
 {
@@ -63,7 +63,7 @@ pub fn at_record(s: Session, number: usize) -> Session
 }
 
 // Directory, file and record number move.
-fn moved(s: Session, directory: usize, file: usize, number: u8) -> Session
+fn moved(s: Standing, directory: usize, file: usize, number: u8) -> Standing
     requires { ⌜ (directory < 256) × (file < 256) ⌝ }
     ensures { λ r. ⌜ r ≡ spec.moved s directory file number ⌝ }
 {
@@ -75,7 +75,7 @@ fn moved(s: Session, directory: usize, file: usize, number: u8) -> Session
 }
 
 // The session after an entry with its row was selected.
-pub fn selected(s: Session, e: usize, r: Row) -> Session
+pub fn selected(s: Standing, e: usize, r: Row) -> Standing
     requires { ⌜ (e < 256) × (r .parent < 256) ⌝ }
     ensures { λ n. ⌜ n ≡ spec.selected s e r ⌝ }
 {

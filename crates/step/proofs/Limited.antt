@@ -13,7 +13,7 @@ use Rattle.card.specs.Row.{Card}
 use Rattle.journal.specs.Entries.{HasRoom}
 use Rattle.journal.specs.Changes.{cost}
 use Rattle.journal.proofs.Parts.{card-table}
-use Rattle.session.specs.declared.Session.{Session}
+use Rattle.session.specs.declared.Standing.{Standing}
 use Rattle.command.specs.declared.Format.{Format}
 use Rattle.command.specs.declared.Command.{Command}
 use Rattle.command.specs.Outcomes.{Plan, failed, dataCount}
@@ -39,7 +39,7 @@ none-counts kept n e = rw e
 pub counts-so : (kept n : ℕ) {counts over : Bool} {size : ℕ} → counts ≡ true → size ≡ rapduSize n → ltb mostKept (kept + size) ≡ over → passes kept counts n ≡ over
 counts-so kept n e z h = rw (e, ← z) h
 
-module _ (kept : ℕ) (counts : Bool) (s : Session) (few : kept ≤ mostKept) where
+module _ (kept : ℕ) (counts : Bool) (s : Standing) (few : kept ≤ mostKept) where
   -- the rule by that test alone
   pub by-passing : (c : Bool) (p : Plan) → limited kept c s p ≡ pick (passes kept c (dataCount (p .outcome))) (failed s 0x6F00) p
   unfolding limited pick
@@ -66,7 +66,7 @@ module _ (kept : ℕ) (counts : Bool) (s : Session) (few : kept ≤ mostKept) wh
     within test = subst (λ (p : Plan). Decided card «data» bytes p d) (sym (by-passing counts plan ∙ pick-false _ _ _ (same-test ∙ test))) told
 
 -- what is decided of a command has 256 data bytes at most
-pub decided-few : (format : Format) (domain : ℕ) (c : Command) («data» : List ℕ) (s : Session) (card : Card) → Ready card s c (length «data») → (bytes : List ℕ) (d : Decision) → Decided card «data» bytes (planned (situation format domain c «data» s card)) d → dataCount (d .outcome) ≤ 256
+pub decided-few : (format : Format) (domain : ℕ) (c : Command) («data» : List ℕ) (s : Standing) (card : Card) → Ready card s c (length «data») → (bytes : List ℕ) (d : Decision) → Decided card «data» bytes (planned (situation format domain c «data» s card)) d → dataCount (d .outcome) ≤ 256
 unfolding planOf
 decided-few format domain c «data» s card h bytes d told =
     let brief = h .bytes .brief in

@@ -21,9 +21,9 @@ use denote.Steps.{nothing, owned}
 use denote.Enum.Laws as EL
 use denote.Struct.Laws as LL
 use Rattle.card.specs.Row.{Card, lent}
-use Rattle.session.specs.declared.Session.{Session}
-use Rattle.session.proofs.Session as S
-use Rattle.session.proofs.Session.Laws as S′
+use Rattle.session.specs.declared.Standing.{Standing}
+use Rattle.session.proofs.Standing as S
+use Rattle.session.proofs.Standing.Laws as S′
 use Rattle.command.specs.declared.Format.{Format}
 use Rattle.command.specs.declared.Command.{Command}
 use Rattle.command.specs.declared.Outcome.{Outcome}
@@ -35,7 +35,7 @@ use Rattle.plan.specs.Decisions.{movedTo}
 use Rattle.step.specs.Steps.{MayRun, commanded}
 
 -- the machine values of a session and of a slice
-abbrev pub low : Session → Val
+abbrev pub low : Standing → Val
 low s = LL.val S.the-type S′.the-laws s
 
 abbrev pub v : RefT (List ℕ) → Val
@@ -46,11 +46,11 @@ abbrev pub Bytes : Type 0
 Bytes = List ℕ × (List ℕ × (List ℕ × (List ℕ × (List ℕ × Unit {0}))))
 
 -- a command in a session after so many others, on a card: what is asked, and what is said of the session, the outcome, the count and the bytes after it
-module _ (s : Session) (c : Command) («data» : RefT (List ℕ)) (count kept : ℕ) (made waiting : RefT (List ℕ)) (card : Card) where
+module _ (s : Standing) (c : Command) («data» : RefT (List ℕ)) (count kept : ℕ) (made waiting : RefT (List ℕ)) (card : Card) where
   abbrev pub AskedOf : Type 0
   AskedOf = MayRun card s c (length (now «data»)) count kept (now made) (now waiting)
 
-  abbrev pub SaidOf : Format → ℕ → Bool → Session → Outcome → ℕ → Bytes → Type 0
+  abbrev pub SaidOf : Format → ℕ → Bool → Standing → Outcome → ℕ → Bytes → Type 0
   SaidOf format domain counts s′ outcome count′ ys = (movedTo s′ outcome (ys .1 .0) (lent (ys .1 .1 .0) (ys .1 .1 .1 .0) (ys .1 .1 .1 .1 .0)) ≡ commanded format domain c (now «data») s kept counts (now waiting) card) × (count′ ≡ count + 1)
 
 -- the tokens of the lifetimes of the data and of the five memories

@@ -6,7 +6,7 @@ use lib.ListN.{length}
 use lib.Dec.{ltb}
 use Rattle.octets.specs.Choice.{pick}
 use Rattle.tlv.specs.Lengths.{lengthBytes}
-use Rattle.session.specs.declared.Session.{Session}
+use Rattle.session.specs.declared.Standing.{Standing}
 use Rattle.command.specs.Outcomes.{Plan, failed, dataCount}
 
 -- how many bytes an R-APDU takes whose data are n bytes: "23, length, data, status"
@@ -18,6 +18,6 @@ abbrev pub mostKept : ℕ
 mostKept = 1000
 
 -- a plan, where so many bytes of R-APDUs are kept and this one counts or not
-unfoldable pub limited : ℕ → Bool → Session → Plan → Plan
+unfoldable pub limited : ℕ → Bool → Standing → Plan → Plan
 limited kept counts s p =
     pick (ltb mostKept (kept + pick counts (rapduSize (dataCount (p .outcome))) 0)) (failed s 0x6F00) p

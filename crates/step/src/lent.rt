@@ -4,7 +4,7 @@ use command::Command;
 use command::Format;
 use command::Outcome;
 use command::Step;
-use session::Session;
+use session::Standing;
 ghost use mathlib.Core.Path.{_≡_};
 ghost use Prim.Native.Nat.{_+_};
 ghost use lib.ListN.{length};
@@ -21,7 +21,7 @@ pub struct Ended {
 
 // One command on a card, with its data, after `count` others: the lent session moves on.
 fn step(
-    session: &mut Session,
+    session: &mut Standing,
     format: Format,
     domain: usize,
     c: Command,

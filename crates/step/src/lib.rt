@@ -8,7 +8,7 @@ use command::Step;
 use decide::decide;
 use limit::limited;
 use plan::act::carry_out;
-use session::Session;
+use session::Standing;
 ghost use mathlib.Core.Path.{_≡_};
 ghost use Prim.Native.Nat.{_+_};
 ghost use lib.ListN.{length};
@@ -23,7 +23,7 @@ pub fn run_command(
     domain: usize,
     c: Command,
     data: &[u8],
-    s: Session,
+    s: Standing,
     count: usize,
     kept: usize,
     counts: bool,

@@ -2,7 +2,7 @@
 use command::ends::data_count;
 use plan::Decision;
 use plan::failed;
-use session::Session;
+use session::Standing;
 use tlv::lengths::length_size;
 ghost use mathlib.Core.Path.{_≡_};
 ghost use mathlib.Core.List.{List};
@@ -23,7 +23,7 @@ pub fn rapdu_size(n: usize) -> usize
 }
 
 // What was decided, where so many bytes of R-APDUs are kept and this one counts or not.
-pub fn limited(d: Decision, s: Session, kept: usize, counts: bool) -> Decision
+pub fn limited(d: Decision, s: Standing, kept: usize, counts: bool) -> Decision
     requires { ⌜ (kept ≤ 1000) × (dataCount (d .outcome) ≤ 256) ⌝ }
     ensures { λ r. ⌜ ((card : Card) («data» bytes : List ℕ) (plan : Plan) → Decided card «data» bytes plan d → Decided card «data» bytes (spec.limited kept counts s plan) r) ⌝ }
 {

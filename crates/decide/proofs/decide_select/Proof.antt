@@ -1,14 +1,12 @@
 -- `decide::decide_select` meets its contract: the first check that fails, or what is found. Assumes nothing.
 use mathlib.Core.Path.{_≡_, sym, ap, _∙_}
 use mathlib.Core.Bool.{true}
-use mathlib.Core.List.{List}
 use Prim.Native.Nat.{ℕ}
 use native.Mathlib.Omega.{arith}
 use lib.ListN.{length}
 use Rattle.octets.proofs.Picks.{told-false, told-true}
 use Rattle.card.specs.declared.tree.Found.the-variants as Found
-use Rattle.card.specs.Row.{rowOf}
-use Rattle.session.specs.Select.{find}
+use Rattle.session.specs.Select.{find, rowFound}
 use Rattle.command.specs.declared.Command.{Command}
 use Rattle.command.specs.Outcomes.{failed}
 use Rattle.command.specs.Plans.{Situation, selectEntry}
@@ -26,7 +24,7 @@ failed-requires c κs = search needs
 
 returns : tie.Need-returns
 returns c = (
-  λ w f k d s t g.
+  λ w f k d s g t.
       c .failed .ensures .0 (c .before .before .before .before .before .before .args .«data» .now) _ ∙ (λ i. failed (sym s i) 0x6700)
       ∙ select-wrong w ((λ i. pathLengthFits (k i .p1) (length (d i))) ∙ told-false (c .before .before .path-length-fits .ensures) (c .before .if1 .taken)),
   c .failed .ensures .1,
@@ -66,7 +64,7 @@ failed-requires-2 c κs = search needs
 
 returns-2 : tie.Need-returns-2
 returns-2 c = (
-  λ w f k d s t g.
+  λ w f k d s g t.
       c .failed2 .ensures .0 (start (c .before .before .before .before .before .before) .args .«data» .now) _ ∙ (λ i. failed (sym s i) 0x6A82)
       ∙ select-lost w (fitting-so (c .before .before .before .before .before .before) w k d) (g ∙ sym (c .before .before .before .find .ensures) ∙ c .before .enum-told .given .1),
   c .failed2 .ensures .1,
@@ -99,13 +97,14 @@ same-length : tie.Need-same-length
 same-length c = search needs
 
 returns-3 : tie.Need-returns-3
+unfolding rowFound
 returns-3 c =
     let n = c .before .before .before .before .before .before in
     let z = origin n in
     let e = found n in (
-      λ w f k d s t g.
+      λ w f k d s g t.
           c .before .before .select-entry .ensures .0 (z .args .«data» .now)
-          ∙ (λ i. selectEntry (sym f i) (sym s i) (sym k i .p2) e ((c .before .before .before .before .row-at .ensures .0 ∙ ap (λ (l : List ℕ). rowOf l e) (sym t)) i))
+          ∙ (λ i. selectEntry (sym f i) (sym s i) (sym k i .p2) e ((c .before .before .before .before .row-at .ensures .0 ∙ sym (ap (rowFound (z .args .table .now)) (there n)) ∙ sym t) i))
           ∙ select-found w (fitting-so (n .before .before .before .before .before) w k d) e (g ∙ there n) (ap (λ (q : Command). q .instruction) k ∙ z .pre .1),
       c .before .before .select-entry .ensures .1,
     )

@@ -47,9 +47,9 @@ use denote.Triple.Table.{entered, cited}
 use denote.Triple.Walked.{says, needs, Stays, stay-none, stay-none-slice, gave-slice, walkOf, goes-none, goes-none-slice, goes-gave-slice, Walks, ends-at, walked, walk-meets}
 use denote.Exit.{yes}
 use Rattle.card.specs.Row.{Card, lent}
-use Rattle.session.specs.declared.Session.{Session}
-use Rattle.session.proofs.Session as S
-use Rattle.session.proofs.Session.Laws as S′
+use Rattle.session.specs.declared.Standing.{Standing}
+use Rattle.session.proofs.Standing as S
+use Rattle.session.proofs.Standing.Laws as S′
 use Rattle.command.specs.declared.Format.{Format}
 use Rattle.command.specs.declared.Command.{Command}
 use Rattle.command.specs.declared.Step.{Step}
@@ -79,7 +79,7 @@ stayed = (stay-none (λ _. F.the-row) yes, (stay-none (λ _. usize) yes, (stay-n
 
 -- what `step` says last of the session, and of the bytes
 abbrev Lasts : Type 0
-Lasts = Session × (Unit {0} × (Unit {0} × (Unit {0} × (Unit {0} × (Unit {0} × (Unit {0} × (Unit {0} × Bytes)))))))
+Lasts = Standing × (Unit {0} × (Unit {0} × (Unit {0} × (Unit {0} × (Unit {0} × (Unit {0} × (Unit {0} × Bytes)))))))
 
 abbrev bytes : Lasts → Bytes
 bytes zs = zs .1 .1 .1 .1 .1 .1 .1 .1
@@ -95,7 +95,7 @@ module _ {M : Type 1} (𝓤 : URA M) (H : Heap 𝓤) (A : Atoms 𝓤) (at-mem : 
   StepOn = tripleOf 𝓤 H A step.signature (step.spec 𝓤 H A at-mem run)
 
 -- a local that holds a session, as what can be lent, and back
-module _ {M : Type 1} (𝓤 : URA M) (H : Heap 𝓤) (A : Atoms 𝓤) (W : Given 𝓤 H A) (s : Session) (l : ℕ) where
+module _ {M : Type 1} (𝓤 : URA M) (H : Heap 𝓤) (A : Atoms 𝓤) (W : Given 𝓤 H A) (s : Standing) (l : ℕ) where
   lies-in : Is S.the-row s (low s ∷ []) → ent 𝓤 (sem 𝓤 H A (fat fullShare S′.mir l 0 (low s))) (sem 𝓤 H A (mem S.the-row .lies s l 0))
   unfolding partOf
   lies-in is =
@@ -122,7 +122,7 @@ module _ {M : Type 1} (𝓤 : URA M) (H : Heap 𝓤) (A : Atoms 𝓤) (W : Given
   Post = walkOf 𝓤 H A run-step.ended stayed (run-step.clauses 𝓤 H A at-mem run) .post ((κs, qs, tt, a, vals), tt)
 
   -- what `step` is passed: the session at l is lent for the lifetime α, under the name δ
-  abbrev session : ℕ → GName → RefT Session
+  abbrev session : ℕ → GName → RefT Standing
   session l δ = record { ptr = (l, 0); name = δ; now = before .session }
 
   abbrev passed : (α : ℕ) → ℕ → GName → Args step.signature (α ∷ [], κs)
@@ -140,7 +140,7 @@ module _ {M : Type 1} (𝓤 : URA M) (H : Heap 𝓤) (A : Atoms 𝓤) (W : Given
   abbrev Asked : Type 0
   Asked = AskedOf (before .session) c «data» (before .count) kept made waiting card
 
-  abbrev Said : Ended → Session → Bytes → Type 0
+  abbrev Said : Ended → Standing → Bytes → Type 0
   Said r s = SaidOf (before .session) c «data» (before .count) kept made waiting card format domain counts s (r .outcome) (r .count)
 
   abbrev Tokens : Item 𝓤
@@ -176,10 +176,10 @@ module _ {M : Type 1} (𝓤 : URA M) (H : Heap 𝓤) (A : Atoms 𝓤) (W : Given
         -- [what all but the session own; the data; the tokens; the session lent]
         move ! (3 ∷ 0 ∷ []) $ fjoin ! $ move ! (2 ∷ 0 ∷ []) $ use2 W (raw (StepOn 𝓤 H A at-mem run .pre (to α l δ))) (calls α l δ asked) $ frame ! $ done !
 
-    abbrev after : Ended → Session → Step
+    abbrev after : Ended → Standing → Step
     after r s = record { session = s; outcome = r .outcome; count = r .count }
 
-    exits : (r : Ended) (s : Session) (ys : Bytes) → Said r s ys → Is T.the-row (after r s) (LL.vals T.the-type T′.the-laws (after r s))
+    exits : (r : Ended) (s : Standing) (ys : Bytes) → Said r s ys → Is T.the-row (after r s) (LL.vals T.the-type T′.the-laws (after r s))
         → AsMany made waiting table files journal ys
         → ent 𝓤 (⋆ 𝓤 H A (Left ys)) (Post (LL.val T.the-type T′.the-laws (after r s)))
     exits r s ys e is many =

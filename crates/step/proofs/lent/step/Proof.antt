@@ -44,9 +44,9 @@ use denote.Triple.Table.{entered, cited}
 use denote.Triple.Walked.{says, needs, Stays, stay-none, stay-none-slice, stay-ref, gave-slice, walkOf, goes-none, goes-none-slice, goes-ref, goes-gave-slice, Walks, ends-at, walked, walk-meets}
 use denote.Exit.{yes}
 use Rattle.card.specs.Row.{lent}
-use Rattle.session.specs.declared.Session.{Session}
-use Rattle.session.proofs.Session as S
-use Rattle.session.proofs.Session.Laws as S′
+use Rattle.session.specs.declared.Standing.{Standing}
+use Rattle.session.proofs.Standing as S
+use Rattle.session.proofs.Standing.Laws as S′
 use Rattle.command.specs.declared.Format.{Format}
 use Rattle.command.specs.declared.Command.{Command}
 use Rattle.command.specs.declared.Step.{Step}
@@ -84,7 +84,7 @@ module _ {M : Type 1} (𝓤 : URA M) (H : Heap 𝓤) (A : Atoms 𝓤) (at-mem : 
   abbrev RunCommand : Contract 𝓤
   RunCommand = tripleOf 𝓤 H A command.signature (command.spec 𝓤 H A at-mem run)
 
-module _ {M : Type 1} (𝓤 : URA M) (H : Heap 𝓤) (A : Atoms 𝓤) (W : Given 𝓤 H A) (at-mem : Memory → SProp 𝓤) (run : Routine → Fun 𝓤) (κs : Lfts 7) (qs : Shares 7) (b o : ℕ) (γ : GName) (h : Session) (format : Format) (domain : ℕ) (c : Command) («data» : RefT (List ℕ)) (count kept : ℕ) (counts : Bool) (made waiting table files journal : RefT (List ℕ)) where
+module _ {M : Type 1} (𝓤 : URA M) (H : Heap 𝓤) (A : Atoms 𝓤) (W : Given 𝓤 H A) (at-mem : Memory → SProp 𝓤) (run : Routine → Fun 𝓤) (κs : Lfts 7) (qs : Shares 7) (b o : ℕ) (γ : GName) (h : Standing) (format : Format) (domain : ℕ) (c : Command) («data» : RefT (List ℕ)) (count kept : ℕ) (counts : Bool) (made waiting table files journal : RefT (List ℕ)) where
   abbrev a : Args step.signature κs
   a = (record { ptr = (b, o); name = γ; now = h }, (format, (domain, (c, («data», (count, (kept, (counts, (made, (waiting, (table, (files, (journal, tt)))))))))))))
 
@@ -124,7 +124,7 @@ module _ {M : Type 1} (𝓤 : URA M) (H : Heap 𝓤) (A : Atoms 𝓤) (W : Given
   Data = ShrSlice (named 1) (κs .1 .0) u8 .own «data» (v «data» ∷ [])
 
   -- what is had when the session s was stored and the borrow closed
-  abbrev Left : Session → Bytes → List (Item 𝓤)
+  abbrev Left : Standing → Bytes → List (Item 𝓤)
   Left s ys = ‵ (fobs γ (S.the-row .coded .code s)) ∷ ‵ (fbor (κs .0) (Body (mem S.the-row) b o γ)) ∷ ‵ (flft (κs .0) (qs .0)) ∷ Tokens ∷ finals made waiting table files journal ys (‵ Data ∷ [])
 
   module _ (is-format : Is F.the-row format (EL.vals F.the-type F′.the-laws format)) (domain-fits : domain < 2 ^ 64) (is-command : Is C.the-row c (LL.vals C.the-type C′.the-laws c)) (count-fits : count < 2 ^ 64) (kept-fits : kept < 2 ^ 64) where
