@@ -6,7 +6,7 @@ use lib.ListN.{length, length-take}
 use Rattle.octets.specs.Bytes.{part}
 use Rattle.octets.proofs.Writes.{part-lent}
 use Rattle.command.specs.declared.Command.{Command}
-use Rattle.command.specs.Checks.{OfBytes}
+use Rattle.command.specs.Promised.{OfBytes}
 
 pub lent-bytes : {c : Command} {n : ℕ} (m : List ℕ) (from : ℕ) → OfBytes c n → OfBytes c (length (part m from (from + n - from)))
 lent-bytes {c} {n} m from b =

@@ -9,7 +9,8 @@ use Rattle.octets.specs.Bytes.{overwrite}
 use Rattle.octets.proofs.Writes.{part-length}
 use Rattle.command.specs.declared.Outcome.{Outcome}
 use Rattle.command.specs.declared.Outcome.the-variants.{Well, FromFiles, FromWaiting, Error}
-use Rattle.command.specs.Outcomes.{dataOf, dataCount, OutcomeFits}
+use Rattle.command.specs.Outcomes.{dataOf, dataCount}
+use Rattle.command.specs.Promised.{OutcomeFits}
 
 pub data-length : (o : Outcome) (files waiting : List ℕ) → OutcomeFits (length files) o → length waiting ≡ 255 → length (dataOf o files waiting) ≡ dataCount o
 unfolding dataOf OutcomeFits

@@ -1,11 +1,7 @@
 // One command, in its parsed form.
-pub mod checks;
 pub mod ends;
 pub mod instruction;
 pub mod reader;
-pub mod records;
-pub mod search;
-pub mod sum;
 
 use session::Standing;
 

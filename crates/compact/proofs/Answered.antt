@@ -7,7 +7,8 @@ use lib.ListN.{length, replicate}
 use Rattle.octets.specs.Bytes.{bytes2, overwrite}
 use Rattle.octets.proofs.Writes.{write-two, write-length}
 use Rattle.command.specs.declared.Step.{Step}
-use Rattle.command.specs.Outcomes.{wordOf, dataOf, dataCount, OutcomeFits}
+use Rattle.command.specs.Outcomes.{wordOf, dataOf, dataCount}
+use Rattle.command.specs.Promised.{OutcomeFits}
 use Rattle.command.proofs.Outgoing.{data-length}
 use Rattle.compact.specs.Compact.{answer}
 

@@ -11,7 +11,7 @@ use Rattle.octets.proofs.Picks.{on-test}
 use Rattle.card.specs.Row.{Card}
 use Rattle.command.specs.declared.Reading.{Reading}
 use Rattle.command.specs.Outcomes.{wordOf, goesOn}
-use Rattle.command.specs.Commands.{State, started, stepped}
+use Rattle.step.specs.Steps.{State, started, stepped}
 use Rattle.compact.specs.Compact.{headerSize, broken, wholeAt, readAt, placeAfter, stepRead, stepAt, runFrom, run}
 use Rattle.compact.proofs.Readings.{on-reading}
 use Rattle.compact.proofs.Going.{nothing-left}

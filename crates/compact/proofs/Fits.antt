@@ -8,10 +8,10 @@ use Rattle.card.specs.Row.{Card}
 use Rattle.session.specs.Session.{start, startWaiting}
 use Rattle.command.specs.declared.Format.the-variants.{Compact}
 use Rattle.command.specs.declared.Reading.{Reading}
-use Rattle.command.specs.Outcomes.{OutcomeFits}
-use Rattle.command.specs.Commands.{State, started, carriedOut, stepped}
-use Rattle.command.proofs.Keeps.{Holds}
-use Rattle.command.proofs.Handed.{outcome-fits}
+use Rattle.command.specs.Promised.{OutcomeFits}
+use Rattle.step.specs.Steps.{State, started, carriedOut, stepped}
+use Rattle.step.proofs.Keeps.{Holds}
+use Rattle.step.proofs.Handed.{outcome-fits}
 use Rattle.compact.specs.Compact.{broken, wholeAt, readAt, stepRead, stepAt, run}
 use Rattle.compact.proofs.Readings.{on-reading}
 use Rattle.compact.proofs.Runs.{on-run, brief, Kept, step-holds}

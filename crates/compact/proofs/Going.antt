@@ -14,8 +14,8 @@ use Rattle.session.specs.Session.{startWaiting}
 use Rattle.command.specs.declared.Reading.{Reading}
 use Rattle.command.specs.declared.Step.{Step}
 use Rattle.command.specs.Outcomes.{wordOf, goesOn}
-use Rattle.command.specs.Commands.{State, stateOf, started, stepped}
-use Rattle.command.proofs.Keeps.{Holds, starts-holds}
+use Rattle.step.specs.Steps.{State, stateOf, started, stepped}
+use Rattle.step.proofs.Keeps.{Holds, starts-holds}
 use Rattle.compact.specs.Compact.{readAt, placeAfter, ReadingFits, stepRead, stepAt, runFrom, run}
 use Rattle.compact.proofs.Runs.{step-holds}
 

@@ -12,8 +12,8 @@ use Rattle.command.specs.declared.Format.the-variants.{Compact}
 use Rattle.command.specs.declared.Reading.{Reading}
 use Rattle.command.specs.Instructions.{carriesData}
 use Rattle.command.specs.Outcomes.{wordOf, goesOn}
-use Rattle.command.specs.Commands.{State, started, stepped}
-use Rattle.command.proofs.Keeps.{Holds, command-holds}
+use Rattle.step.specs.Steps.{State, started, stepped}
+use Rattle.step.proofs.Keeps.{Holds, command-holds}
 use Rattle.compact.specs.Compact.{dataBehind, broken, wholeAt, readAt, placeAfter, stepRead, stepAt, runFrom, run}
 use Rattle.compact.proofs.Readings.{on-reading}
 

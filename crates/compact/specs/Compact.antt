@@ -13,8 +13,9 @@ use Rattle.command.specs.declared.Reading.{Reading}
 use Rattle.command.specs.declared.Step.{Step}
 use Rattle.command.specs.Instructions.{carriesData, caseOf}
 use Rattle.command.specs.Outcomes.{wordOf, dataOf, goesOn}
-use Rattle.command.specs.Checks.{OfBytes}
-use Rattle.command.specs.Commands.{State, started, planned, situation, carriedOut, stepped}
+use Rattle.command.specs.Promised.{OfBytes}
+use Rattle.step.specs.Steps.{State, started, carriedOut, stepped}
+use Rattle.decide.specs.Decisions.{planned, situation}
 
 -- "Five-byte headers"
 abbrev pub headerSize : ℕ

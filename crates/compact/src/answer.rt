@@ -6,7 +6,8 @@ ghost use mathlib.Core.Path.{_≡_};
 ghost use Prim.Native.Nat.{_+_, _≤_, _<_};
 ghost use lib.ListN.{length};
 ghost use Rattle.octets.specs.Bytes.{overwrite};
-ghost use Rattle.command.specs.Outcomes.{dataCount, OutcomeFits};
+ghost use Rattle.command.specs.Outcomes.{dataCount};
+ghost use Rattle.command.specs.Promised.{OutcomeFits};
 ghost use Rattle.compact.specs.Compact as spec;
 
 // The answer is written to the front of the response memory: count, status, data; what comes out is its length.

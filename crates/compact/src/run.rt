@@ -12,8 +12,8 @@ ghost use lib.ListN.{length};
 ghost use Rattle.card.specs.Row.{lent};
 ghost use Rattle.journal.specs.Sound.{Starts};
 ghost use Rattle.session.specs.Session.{startWaiting};
-ghost use Rattle.command.specs.Commands.{stateOf};
-ghost use Rattle.step.specs.Steps.{MayRun};
+ghost use Rattle.step.specs.Steps.{stateOf};
+ghost use Rattle.step.specs.Promised.{MayRun};
 ghost use Rattle.compact.specs.Compact as spec;
 
 // A script's step after a command that was read.

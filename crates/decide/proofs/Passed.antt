@@ -24,18 +24,19 @@ use Rattle.command.specs.declared.Format.the-variants.{Compact}
 use Rattle.command.specs.declared.Command.{Command}
 use Rattle.command.specs.Instructions as ins
 use Rattle.command.specs.Instructions.{isRecord}
-use Rattle.command.specs.Files.{File, Recorded, fileAt}
-use Rattle.command.specs.Plans.{Situation, offsetOf, namedBy, switch, doneBy}
-use Rattle.command.specs.Checks.{holds, formalChecks, boundChecks, kindFits, offsetFits, recordFits, lengthFits, FirstWord, Checkable, Bound, Whole, Formal}
-use Rattle.command.specs.Commands.{situation, planned}
-use Rattle.command.proofs.Order.{record-kind}
+use Rattle.plan.specs.Files.{File, fileAt}
+use Rattle.plan.specs.Promised.{Recorded, planOf, Fits, newestOf, updateChange, summed}
+use Rattle.plan.specs.Plans.{Situation, offsetOf, namedBy, switch, doneBy}
+use Rattle.decide.specs.Fails.{holds, kindFits, offsetFits, recordFits, lengthFits}
+use Rattle.decide.specs.Order.{formalChecks, boundChecks}
+use Rattle.decide.specs.Promised.{FirstWord, Checkable, Bound, Whole, Formal, roomed, Able, Ready, Unroomed, Decided}
+use Rattle.decide.specs.Decisions.{situation, planned}
+use Rattle.decide.proofs.Order.{record-kind}
 use Rattle.card.proofs.Places.{offset-inside}
-use Rattle.command.proofs.Passed.{AllHold, kind-increased, offset-read, length-binary, length-record, length-increased, named-there}
+use Rattle.decide.proofs.Passing.{AllHold, kind-increased, offset-read, length-binary, length-record, length-increased, named-there}
 use Rattle.plan.specs.declared.Change.the-variants.{TableByte}
 use Rattle.plan.specs.declared.Decision.{Decision}
-use Rattle.plan.specs.Decisions.{planOf, Fits, newestOf, updateChange, summed}
 use Rattle.plan.proofs.Inside.{none-fits, newest-fits}
-use Rattle.decide.specs.Decisions.{roomed, Able, Ready, Unroomed, Decided}
 use Rattle.decide.proofs.Plans.{check-fails, bounds-hold, roomless-done, room-behind, Fails, roomed-inside, plain-sum}
 
 -- what is known of a file command and its file's row once the checks up to the lengths hold

@@ -19,18 +19,20 @@ use Rattle.journal.specs.Changes.{cost}
 use Rattle.session.specs.declared.Standing.{Standing}
 use Rattle.command.specs.Instructions as ins
 use Rattle.command.specs.Instructions.{isKnown}
-use Rattle.command.specs.Outcomes.{Plan, failed}
-use Rattle.command.specs.Files.{File}
-use Rattle.command.specs.Plans.{Situation, selectEntry, select, getResponse, doneBy}
-use Rattle.command.specs.Checks.{Check, holds, checkWord, firstFailing, failWord, wrongPathLength, notFound, nothingWaits, moreThanWaits, sumTooLong, journalFull, selectChecks, responseChecks, boundChecks, fileChecks, laterChecks, formalChecks, order, pathLengthFits, isFound, sumFits, journalFits}
-use Rattle.command.specs.Commands.{decided, planned}
-use Rattle.command.proofs.Order.{past, first, later-select, later-response, later-file}
-use Rattle.command.proofs.Passed.{AllHold}
+use Rattle.plan.specs.Ends.{Plan, failed}
+use Rattle.plan.specs.Files.{File, sumFits}
+use Rattle.plan.specs.Plans.{Situation, selectEntry, select, getResponse, doneBy}
+use Rattle.command.specs.Checks.{Check, checkWord, wrongPathLength, notFound, nothingWaits, moreThanWaits, sumTooLong, journalFull}
+use Rattle.decide.specs.Fails.{holds, firstFailing, pathLengthFits, isFound, journalFits}
+use Rattle.decide.specs.Promised.{failWord, roomed, responded, behindForm, roomless, Decided}
+use Rattle.decide.specs.Order.{selectChecks, responseChecks, boundChecks, fileChecks, laterChecks, formalChecks, order}
+use Rattle.decide.specs.Decisions.{decided, planned}
+use Rattle.decide.proofs.Order.{past, first, later-select, later-response, later-file}
+use Rattle.decide.proofs.Passing.{AllHold}
 use Rattle.plan.specs.declared.Change.the-variants.{Nothing}
 use Rattle.plan.specs.declared.Decision.{Decision}
-use Rattle.plan.specs.Decisions.{writesOf, planOf, summed}
+use Rattle.plan.specs.Promised.{writesOf, planOf, summed}
 use Rattle.plan.proofs.Inside.{none-fits}
-use Rattle.decide.specs.Decisions.{roomed, responded, behindForm, roomless, Decided}
 
 -- whether no check of a list has the word 0
 worded : List Check → Bool

@@ -1,65 +1,42 @@
--- What deciding a command may go by, what it comes to without and with the journal's room, and what is decided.
-use Prim.Native.Nat.{ℕ, _+_}
-use mathlib.Core.Bool.{true}
-use mathlib.Core.Path.{_≡_}
-use mathlib.Core.List.{List, [], _∷_, _++_}
-use lib.ListN.{length}
-use lib.Dec.{leb}
-use Rattle.octets.specs.Choice.{pick}
-use Rattle.card.specs.Row.{Card, lent}
-use Rattle.card.specs.Sound.{soundTable}
-use Rattle.journal.specs.Entries.{HasRoom}
-use Rattle.journal.specs.Sound.{soundCard}
-use Rattle.journal.specs.Changes.{cost}
+-- One command: it ends with the word of the first check that fails, or does what its instruction says.
+use Prim.Native.Nat.{ℕ}
+use mathlib.Core.List.{List}
+use mathlib.Core.Option.{Option, none, some}
+use Rattle.card.specs.Row.{Card}
 use Rattle.session.specs.declared.Standing.{Standing}
-use Rattle.session.specs.Good.{Good}
+use Rattle.session.specs.Select.{find, rowFound}
 use Rattle.command.specs.declared.Format.{Format}
 use Rattle.command.specs.declared.Command.{Command}
-use Rattle.command.specs.Outcomes.{Plan, failed}
-use Rattle.command.specs.Plans.{Situation, getResponse}
-use Rattle.command.specs.Checks.{nothingWaits, moreThanWaits, sumTooLong, journalFull, checkWord, formalChecks, boundChecks, laterChecks, firstFailing, OfBytes}
-use Rattle.command.specs.Commands.{situation, decided}
-use Rattle.plan.specs.declared.Decision.{Decision}
-use Rattle.plan.specs.Decisions.{planOf, Fits}
+use Rattle.command.specs.Checks.{Check, checkWord}
+use Rattle.plan.specs.Ends.{Plan, failed}
+use Rattle.plan.specs.Files.{fileAt}
+use Rattle.plan.specs.Plans.{Situation, doneBy}
+use Rattle.decide.specs.Order.{order}
+use Rattle.decide.specs.Fails.{firstFailing}
 
--- a plan behind the check of the journal's room
-unfoldable pub roomed : ℕ → ℕ → Standing → Plan → Plan
-roomed used room s plan = pick (leb (used + cost (plan .writes)) room) plan (failed s (checkWord journalFull))
+-- the entry that a command works on
+abbrev pub target : Standing → ℕ
+target s = s .file
 
--- GET RESPONSE behind the formal checks
-unfoldable pub responded : Command → Standing → Plan
-responded c s =
-    pick (leb 1 (s .valid))
-    (pick (leb (c .p3) (s .valid)) (getResponse c s) (failed s (checkWord moreThanWaits)))
-    (failed s (checkWord nothingWaits))
+-- the situation of a command on a card
+unfoldable pub situation : Format → ℕ → Command → List ℕ → Standing → Card → Situation
+situation format domain c «data» s card =
+    record {
+      format = format;
+      domain = domain;
+      command = c;
+      «data» = «data»;
+      session = s;
+      found = find (card .table) (s .root) (s .directory) (c .p1) «data»;
+      row = rowFound (card .table) (find (card .table) (s .root) (s .directory) (c .p1) «data»);
+      file = fileAt card (target s);
+    }
 
--- what comes of a command whose formal checks hold
-unfoldable pub behindForm : Situation → Plan
-behindForm w = decided w (firstFailing w (laterChecks (w .command .instruction)))
+-- what comes of a check that fails, or of none
+unfoldable pub decided : Situation → Option Check → Plan
+decided w none = doneBy (w .command .instruction) w
+decided w (some k) = failed (w .session) (checkWord k)
 
--- what comes of a file command, but for the journal's room
-unfoldable pub roomless : Situation → Plan
-roomless w = decided w (firstFailing w (formalChecks ++ (boundChecks ++ (sumTooLong ∷ []))))
-
--- what a file command may go by: the table is sound, the session good, and the command's numbers are bytes
-pub record Able (t files : List ℕ) (s : Standing) (c : Command) (lc : ℕ) : Type 0 where
-  pub table : soundTable t files ≡ true
-  pub good : Good t s
-  pub bytes : OfBytes c lc
-
--- what deciding a command may go by: the card is sound, the session good, and the command's numbers are bytes
-pub record Ready (card : Card) (s : Standing) (c : Command) (lc : ℕ) : Type 0 where
-  pub sound : soundCard card ≡ true
-  pub good : Good (card .table) s
-  pub bytes : OfBytes c lc
-
--- what is decided of a file command but for the journal's room, whatever the journal is: it lies inside the card
-pub record Unroomed (format : Format) (domain : ℕ) (c : Command) («data» : List ℕ) (s : Standing) (t files bytes : List ℕ) (d : Decision) : Type 0 where
-  pub same : (journal : List ℕ) → planOf d «data» bytes ≡ roomless (situation format domain c «data» s (lent t files journal))
-  pub fits : Fits (length t) (length files) (length «data») (d .change)
-
--- what is decided: the plan, which lies inside the card and finds room in the journal
-pub record Decided (card : Card) («data» bytes : List ℕ) (plan : Plan) (d : Decision) : Type 0 where
-  pub same : planOf d «data» bytes ≡ plan
-  pub fits : Fits (length (card .table)) (length (card .files)) (length «data») (d .change)
-  pub journal : HasRoom (card .journal) (cost (plan .writes))
+-- what a command does in a situation
+unfoldable pub planned : Situation → Plan
+planned w = decided w (firstFailing w (order (w .command .instruction)))

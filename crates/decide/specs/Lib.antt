@@ -1,1 +1,4 @@
+pub mod Order
+pub mod Fails
 pub mod Decisions
+pub mod Promised

@@ -1,10 +1,10 @@
 // The file commands: the first check that fails, or what the instruction does, but for the journal's room. There is one function for
 // each instruction, which names it to the checks as a number.
+use crate::checks::bound_word;
+use crate::checks::formal_word;
 use card::Row;
 use command::Command;
 use command::Format;
-use command::checks::bound_word;
-use command::checks::formal_word;
 use command::instruction::ACTIVATE;
 use command::instruction::DEACTIVATE;
 use command::instruction::INCREASE;
@@ -22,13 +22,14 @@ ghost use mathlib.Core.List.{List, _++_};
 ghost use Prim.Native.Nat.{ℕ};
 ghost use lib.ListN.{length};
 ghost use Rattle.command.specs.Instructions as ins;
-ghost use Rattle.command.specs.Checks as checks-spec;
-ghost use Rattle.decide.specs.Decisions.{Able, Unroomed};
+ghost use Rattle.decide.specs.Promised as checks-spec;
+ghost use Rattle.decide.specs.Order.{boundChecks, formalChecks};
+ghost use Rattle.decide.specs.Promised.{Able, Unroomed};
 
 // The word of the first check of a file command that fails, up to the lengths, or 0.
 fn checked(i: usize, c: Command, lc: usize, domain: usize, s: Standing, r: Row) -> usize
     requires { ⌜ checks-spec.Checkable i c lc r ⌝ }
-    ensures { λ n. ⌜ checks-spec.FirstWord (checks-spec.formalChecks ++ checks-spec.boundChecks) (checks-spec.Whole c lc domain (s .file) (s .number) r) n ⌝ }
+    ensures { λ n. ⌜ checks-spec.FirstWord (formalChecks ++ boundChecks) (checks-spec.Whole c lc domain (s .file) (s .number) r) n ⌝ }
 {
     let word = formal_word(i, c, lc, domain);
     if word != 0 {

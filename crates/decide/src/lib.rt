@@ -1,11 +1,12 @@
 // Deciding a command: the first check that fails, or what the instruction does, if the journal has room for it.
+mod checks;
 mod file;
 
+use crate::checks::formal_word;
+use crate::checks::path_length_fits;
 use card::tree::Found;
 use command::Command;
 use command::Format;
-use command::checks::formal_word;
-use command::checks::path_length_fits;
 use command::instruction::ACTIVATE;
 use command::instruction::DEACTIVATE;
 use command::instruction::GET_RESPONSE;
@@ -32,11 +33,12 @@ ghost use Rattle.journal.specs.Changes.{cost};
 ghost use Rattle.session.specs.Fcp.{FcpFits};
 ghost use Rattle.session.specs.Select.{find, rowFound};
 ghost use Rattle.command.specs.Instructions as ins;
-ghost use Rattle.command.specs.Plans.{Situation};
-ghost use Rattle.command.specs.Checks as checks-spec;
-ghost use Rattle.command.specs.Commands.{situation, decided, planned};
-ghost use Rattle.plan.specs.Decisions.{writesOf, planOf, Fits, Brief};
-ghost use Rattle.decide.specs.Decisions.{roomed, responded, Ready, Decided};
+ghost use Rattle.plan.specs.Plans.{Situation};
+ghost use Rattle.decide.specs.Order as checks-spec;
+ghost use Rattle.decide.specs.Fails.{firstFailing};
+ghost use Rattle.decide.specs.Decisions.{situation, decided, planned};
+ghost use Rattle.plan.specs.Promised.{writesOf, planOf, Fits, Brief};
+ghost use Rattle.decide.specs.Promised.{roomed, responded, Ready, Decided};
 
 // GET RESPONSE.
 fn get_response(c: Command, s: Standing) -> Decision
@@ -66,7 +68,7 @@ fn decide_select(
     made: &mut [u8],
 ) -> Decision
     requires { ⌜ (length (now made) ≡ 255) × (c .instruction ≡ ins.select) × ((e : ℕ) → find (now table) (s .root) (s .directory) (c .p1) (now «data») ≡ Found.At e → (e < entries (now table)) × (e < 256) × FcpFits (rowOf (now table) e)) × (s .root < entries (now table)) × (s .directory < entries (now table)) × ParentsInside (now table) ⌝ }
-    ensures { λ d. ⌜ ((w : Situation) → w .format ≡ format → w .command ≡ c → w .«data» ≡ now («data» .entry) → w .session ≡ s → w .found ≡ find (now (table .entry)) (s .root) (s .directory) (c .p1) (now («data» .entry)) → w .row ≡ rowFound (now (table .entry)) (find (now (table .entry)) (s .root) (s .directory) (c .p1) (now («data» .entry))) → planOf d (now («data» .entry)) (now (made .exit)) ≡ decided w (checks-spec.firstFailing w checks-spec.selectChecks)) × (d .change ≡ Change.Nothing) ⌝ }
+    ensures { λ d. ⌜ ((w : Situation) → w .format ≡ format → w .command ≡ c → w .«data» ≡ now («data» .entry) → w .session ≡ s → w .found ≡ find (now (table .entry)) (s .root) (s .directory) (c .p1) (now («data» .entry)) → w .row ≡ rowFound (now (table .entry)) (find (now (table .entry)) (s .root) (s .directory) (c .p1) (now («data» .entry))) → planOf d (now («data» .entry)) (now (made .exit)) ≡ decided w (firstFailing w checks-spec.selectChecks)) × (d .change ≡ Change.Nothing) ⌝ }
 {
     if !path_length_fits(c.p1, data.len()) {
         return failed(s, 0x6700);

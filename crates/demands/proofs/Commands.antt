@@ -14,7 +14,7 @@ use Rattle.tlv.specs.declared.template.Template.the-variants.{Definite, Indefin
 use Rattle.tlv.specs.declared.template.Item.{Item}
 use Rattle.tlv.specs.declared.template.Item.the-variants.{Capdu, Bad, End}
 use Rattle.tlv.specs.Templates.{itemAt}
-use Rattle.command.specs.Commands.{State, started, stepped}
+use Rattle.step.specs.Steps.{State, started, stepped}
 use Rattle.compact.specs.Compact as compact
 use Rattle.compact.specs.Compact.{readAt, placeAfter, stepRead, stepAt}
 use Rattle.expanded.specs.Expanded as expanded

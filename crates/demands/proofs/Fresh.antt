@@ -15,10 +15,15 @@ use Rattle.journal.specs.Changes.{perform, withMark}
 use Rattle.session.specs.Session.{start, startWaiting}
 use Rattle.command.specs.declared.Format.the-variants.{Compact, Expanded}
 use Rattle.command.specs.Instructions as ins
-use Rattle.command.specs.Outcomes.{Plan, failed, dataOf}
-use Rattle.command.specs.Plans.{Situation}
-use Rattle.command.specs.Checks.{formalChecks, boundChecks, fileChecks, laterChecks, order, checkWord, holds, firstFailing, failWord}
-use Rattle.command.specs.Commands.{State, started, stepped, situation, carriedOut, decided, planned}
+use Rattle.plan.specs.Ends.{Plan, failed}
+use Rattle.command.specs.Outcomes.{dataOf}
+use Rattle.plan.specs.Plans.{Situation}
+use Rattle.decide.specs.Order.{formalChecks, boundChecks, fileChecks, laterChecks, order}
+use Rattle.command.specs.Checks.{checkWord}
+use Rattle.decide.specs.Fails.{holds, firstFailing}
+use Rattle.decide.specs.Promised.{failWord}
+use Rattle.step.specs.Steps.{State, started, stepped, carriedOut}
+use Rattle.decide.specs.Decisions.{situation, decided, planned}
 use Rattle.decide.proofs.Plans.{first-behind, formal-none}
 use Rattle.compact.specs.Compact as compact
 use Rattle.expanded.specs.Capdu.{capduCommand}

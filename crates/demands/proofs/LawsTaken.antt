@@ -11,7 +11,7 @@ use Rattle.session.specs.declared.Standing.{Standing}
 use Rattle.session.specs.Session.{start, startWaiting}
 use Rattle.command.specs.declared.Format.{Format}
 use Rattle.command.specs.declared.Format.the-variants.{Compact, Expanded}
-use Rattle.command.proofs.Keeps.{Holds, starts-holds}
+use Rattle.step.proofs.Keeps.{Holds, starts-holds}
 use Rattle.compact.proofs.Runs as compact
 use Rattle.expanded.proofs.Runs as expanded
 use Rattle.engine.specs.Numbers.{Arguments, formatOf, firstGiven, runRefusals}

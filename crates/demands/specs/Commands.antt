@@ -13,7 +13,7 @@ use Rattle.tlv.specs.Templates.{itemAt}
 use Rattle.command.specs.declared.Command.{Command}
 use Rattle.command.specs.declared.Reading.{Reading}
 use Rattle.command.specs.Outcomes.{wordOf, goesOn}
-use Rattle.command.specs.Commands.{State, started}
+use Rattle.step.specs.Steps.{State, started}
 use Rattle.compact.specs.Compact.{readAt, placeAfter, stepWith}
 use Rattle.expanded.specs.Expanded.{Progress, begun, stepCapdu, stepBad}
 

@@ -22,9 +22,11 @@ use Rattle.session.specs.Session.{start}
 use Rattle.command.specs.declared.Format.{Format}
 use Rattle.command.specs.declared.Format.the-variants.{Compact, Expanded}
 use Rattle.command.specs.Instructions as ins
-use Rattle.command.specs.Plans.{Situation}
-use Rattle.command.specs.Checks.{formalChecks, firstFailing}
-use Rattle.command.specs.Commands.{started, situation}
+use Rattle.plan.specs.Plans.{Situation}
+use Rattle.decide.specs.Order.{formalChecks}
+use Rattle.decide.specs.Fails.{firstFailing}
+use Rattle.step.specs.Steps.{started}
+use Rattle.decide.specs.Decisions.{situation}
 use Rattle.compact.specs.Compact as compact
 use Rattle.expanded.specs.Capdu.{capduCommand}
 use Rattle.expanded.specs.Expanded as expanded

@@ -16,9 +16,10 @@ use Rattle.journal.specs.Sound.{Starts}
 use Rattle.journal.specs.Changes.{takenBack}
 use Rattle.command.specs.declared.Format.the-variants.{Compact, Expanded}
 use Rattle.command.specs.declared.Step.{Step}
-use Rattle.command.specs.Outcomes.{dataCount, OutcomeFits}
-use Rattle.command.specs.Commands.{State, stateOf, started}
-use Rattle.command.proofs.Keeps.{starts-holds}
+use Rattle.command.specs.Outcomes.{dataCount}
+use Rattle.command.specs.Promised.{OutcomeFits}
+use Rattle.step.specs.Steps.{State, stateOf, started}
+use Rattle.step.proofs.Keeps.{starts-holds}
 use Rattle.command.proofs.Outgoing.{data-few}
 use Rattle.compact.specs.Compact as compact
 use Rattle.compact.proofs.Runs.{run-keeps}

@@ -12,7 +12,7 @@ use Rattle.journal.specs.Sound.{Starts}
 use Rattle.journal.specs.Changes.{withMark, takenBack, confirmed}
 use Rattle.command.specs.declared.Format.{Format}
 use Rattle.command.specs.declared.Format.the-variants.{Compact, Expanded}
-use Rattle.command.specs.Commands.{State}
+use Rattle.step.specs.Steps.{State}
 use Rattle.compact.specs.Compact as compact
 use Rattle.expanded.specs.Expanded as expanded
 use Rattle.expanded.specs.Expanded.{Progress}

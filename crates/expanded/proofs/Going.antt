@@ -16,8 +16,8 @@ use Rattle.journal.specs.Changes.{takenBack}
 use Rattle.session.specs.Session.{startWaiting}
 use Rattle.command.specs.declared.Step.{Step}
 use Rattle.command.specs.Outcomes.{wordOf, goesOn}
-use Rattle.command.specs.Commands.{started, stepped}
-use Rattle.command.proofs.Keeps.{Holds, starts-holds}
+use Rattle.step.specs.Steps.{started, stepped}
+use Rattle.step.proofs.Keeps.{Holds, starts-holds}
 use Rattle.step.specs.Limits.{mostKept}
 use Rattle.expanded.specs.declared.run.Gathered.{Gathered}
 use Rattle.expanded.specs.Expanded.{roomToGather, Progress, progressOf, answered, stepCapdu, stepBad, runFrom, begun}

@@ -19,9 +19,12 @@ use Rattle.session.specs.Good.{Good}
 use Rattle.command.specs.declared.Format.the-variants.{Expanded}
 use Rattle.command.specs.declared.Command.{Command}
 use Rattle.command.specs.declared.Step.{Step}
-use Rattle.command.specs.Outcomes.{Plan, failed, wordOf, dataCount, OutcomeFits, goesOn}
-use Rattle.command.specs.Commands.{State, stateOf, situation, planned, carriedOut, stepped}
-use Rattle.command.proofs.Handed.{waiting-kept, outcome-fits, no-data}
+use Rattle.plan.specs.Ends.{Plan, failed}
+use Rattle.command.specs.Outcomes.{wordOf, dataCount, goesOn}
+use Rattle.command.specs.Promised.{OutcomeFits}
+use Rattle.step.specs.Steps.{State, stateOf, carriedOut, stepped}
+use Rattle.decide.specs.Decisions.{situation, planned}
+use Rattle.step.proofs.Handed.{waiting-kept, outcome-fits, no-data}
 use Rattle.step.specs.Limits.{rapduSize, mostKept, limited}
 use Rattle.step.proofs.Limited.{passes, by-passing}
 use Rattle.expanded.specs.Expanded.{keeps, roomToGather}

@@ -17,8 +17,8 @@ use Rattle.tlv.specs.Templates.{itemAt}
 use Rattle.session.specs.Session.{start, startWaiting}
 use Rattle.command.specs.declared.Format.the-variants.{Expanded}
 use Rattle.command.specs.Outcomes.{wordOf, goesOn}
-use Rattle.command.specs.Commands.{State, started, stepped}
-use Rattle.command.proofs.Keeps.{Holds, Carries, command-holds, failed-holds}
+use Rattle.step.specs.Steps.{State, started, stepped}
+use Rattle.step.proofs.Keeps.{Holds, Carries, command-holds, failed-holds}
 use Rattle.step.specs.Limits.{limited}
 use Rattle.expanded.specs.Capdu.{carried, capduCommand}
 use Rattle.expanded.specs.Expanded.{Progress, answered, stepCapdu, stepBad, runFrom, begun, run}

@@ -7,7 +7,7 @@ use lib.Dec.{leb, eqb}
 use Rattle.octets.specs.Choice.{pick}
 use Rattle.octets.specs.Bytes.{byte}
 use Rattle.command.specs.declared.Reading.{Reading}
-use Rattle.command.specs.Checks.{OfBytes}
+use Rattle.command.specs.Promised.{OfBytes}
 
 -- the case of a C-APDU by its size, and 0 for no case's size
 unfoldable pub caseBySize : List ℕ → ℕ

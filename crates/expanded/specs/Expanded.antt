@@ -16,9 +16,8 @@ use Rattle.command.specs.declared.Format.the-variants.{Expanded}
 use Rattle.command.specs.declared.Reading.{Reading}
 use Rattle.command.specs.declared.Step.{Step}
 use Rattle.command.specs.Outcomes.{wordOf, dataOf, goesOn}
-use Rattle.command.specs.Commands.{State, stateOf, started, stepped}
+use Rattle.step.specs.Steps.{State, stateOf, started, stepped, commanded}
 use Rattle.step.specs.Limits.{mostKept}
-use Rattle.step.specs.Steps.{commanded}
 use Rattle.expanded.specs.declared.run.Gathered.{Gathered}
 use Rattle.expanded.specs.Capdu.{capduCommand}
 

@@ -8,7 +8,8 @@ ghost use mathlib.Core.Path.{_≡_};
 ghost use Prim.Native.Nat.{_+_, _≤_, _<_};
 ghost use lib.ListN.{length};
 ghost use Rattle.octets.specs.Bytes.{overwrite};
-ghost use Rattle.command.specs.Outcomes.{wordOf, dataOf, dataCount, OutcomeFits};
+ghost use Rattle.command.specs.Outcomes.{wordOf, dataOf, dataCount};
+ghost use Rattle.command.specs.Promised.{OutcomeFits};
 ghost use Rattle.step.specs.Limits.{rapduSize};
 ghost use Rattle.expanded.specs.Expanded as spec;
 

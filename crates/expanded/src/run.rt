@@ -20,7 +20,8 @@ ghost use Rattle.card.specs.Row.{Card, lent};
 ghost use Rattle.journal.specs.Sound.{soundCard, Starts};
 ghost use Rattle.session.specs.Good.{Good};
 ghost use Rattle.session.specs.Session.{startWaiting};
-ghost use Rattle.command.specs.Outcomes.{wordOf, dataCount, OutcomeFits, goesOn};
+ghost use Rattle.command.specs.Outcomes.{wordOf, dataCount, goesOn};
+ghost use Rattle.command.specs.Promised.{OutcomeFits};
 ghost use Rattle.step.specs.Limits.{rapduSize};
 ghost use Rattle.expanded.specs.Expanded as spec;
 

@@ -48,6 +48,12 @@ module _ {A : Type 0} where
 
 pub ruleset picks = (lt-yes, lt-no, le-yes, le-no, eq-yes, eq-no, eq-other)
 
+-- what a call said of a test, and what came of it
+pub told : {v b t : Bool} → v ≡ b → v ≡ t → b ≡ t
+told e f = sym e ∙ f
+
+pub ruleset choices = (picks, yes, no, told)
+
 -- what holds of both ways of a choice holds of it
 pub on-pick : {A : Type 0} (P : A → Type 0) (b : Bool) (x y : A) → (b ≡ true → P x) → (b ≡ false → P y) → P (pick b x y)
 unfolding pick

@@ -6,12 +6,10 @@ use Rattle.card.specs.declared.Row.{Row}
 use Rattle.card.specs.Row.{placeOfNewest}
 use Rattle.card.specs.Sound.{recordCount}
 use Rattle.card.specs.Records.{recordPlace, recordOffset, oldestPlace}
-use Rattle.card.proofs.Places.{place-below}
-use Rattle.command.specs.Files.{Recorded}
-use Rattle.card.proofs.Places.{offset-inside}
+use Rattle.card.proofs.Places.{place-below, offset-inside}
+use Rattle.plan.specs.Promised.{Recorded, RecordFits, Fits, newestOf}
 use Rattle.plan.specs.declared.Change.{Change}
 use Rattle.plan.specs.declared.Change.the-variants.{Nothing}
-use Rattle.plan.specs.Decisions.{RecordFits, Fits, newestOf}
 
 -- no change fits
 pub none-fits : {change : Change} (t f lc : ℕ) → change ≡ Nothing → Fits t f lc change

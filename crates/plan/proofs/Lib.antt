@@ -1,4 +1,8 @@
-pub mod Acts
+pub mod Found
+pub mod Digits
+pub mod Placed
+pub mod Noted
+pub mod Fit
 pub mod Inside
 pub mod Made
 pub mod Sums

@@ -11,9 +11,10 @@ use Rattle.octets.proofs.Picks.{on-pick}
 use Rattle.session.specs.declared.Standing.{Standing}
 use Rattle.session.specs.Session.{atRecord}
 use Rattle.command.specs.declared.Format.{Format}
-use Rattle.command.specs.Outcomes.{done, produced, normal, endOfData}
-use Rattle.command.specs.Files.{modeAbsolute, numberAfter}
-use Rattle.command.specs.Plans.{searched}
+use Rattle.plan.specs.Ends.{done, produced}
+use Rattle.command.specs.Outcomes.{normal, endOfData}
+use Rattle.plan.specs.Files.{modeAbsolute, numberAfter}
+use Rattle.plan.specs.Plans.{searched}
 
 -- what was written at the start of some bytes is there
 pub taken : (rest out : List ℕ) (n : ℕ) → n ≡ length out → take n (overwrite rest 0 out) ≡ out

@@ -18,11 +18,11 @@ use Rattle.card.specs.declared.Row.{Row}
 use Rattle.card.specs.Records.{recordOffset}
 use Rattle.session.specs.declared.Standing.{Standing}
 use Rattle.command.specs.Instructions as ins
-use Rattle.command.specs.Outcomes.{Plan, failed}
-use Rattle.command.specs.Files.{File, recordBytes, sum, writeIn, newRecord}
-use Rattle.command.specs.Checks.{checkWord, sumFits}
+use Rattle.plan.specs.Ends.{Plan, failed}
+use Rattle.plan.specs.Files.{File, recordBytes, sum, writeIn, newRecord, sumFits}
+use Rattle.command.specs.Checks.{checkWord}
 use Rattle.plan.specs.declared.Change.the-variants.{SumRecord}
-use Rattle.plan.specs.Decisions.{recordWrites, writesOf, newestOf, summed}
+use Rattle.plan.specs.Promised.{recordWrites, writesOf, newestOf, summed}
 
 -- a sum and what its carry tells
 module _ (n m : ℕ) where

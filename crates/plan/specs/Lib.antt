@@ -1,1 +1,5 @@
-pub mod Decisions
+pub mod Ends
+pub mod Files
+pub mod Sums
+pub mod Plans
+pub mod Promised

@@ -6,12 +6,12 @@ use crate::done;
 use crate::failed;
 use crate::handed;
 use crate::produced;
+use crate::records::number_after;
+use crate::records::record_of;
 use card::Row;
 use command::Command;
 use command::Format;
 use command::instruction::NO_DATA;
-use command::records::number_after;
-use command::records::record_of;
 use session::Standing;
 ghost use mathlib.Core.Path.{_≡_};
 ghost use mathlib.Core.Bool.{false};
@@ -23,9 +23,9 @@ ghost use Rattle.card.specs.Row.{Narrow, isCyclic, placeOfNewest, placeOfState}
 ghost use Rattle.card.specs.Sound.{recordCount};
 ghost use Rattle.session.specs.Fcp.{FcpFits};
 ghost use Rattle.command.specs.Instructions as ins;
-ghost use Rattle.command.specs.Files.{File, Recorded};
-ghost use Rattle.command.specs.Plans as plans;
-ghost use Rattle.plan.specs.Decisions.{planOf, Fits, newestOf, updateChange, summed};
+ghost use Rattle.plan.specs.Files.{File};
+ghost use Rattle.plan.specs.Promised.{Recorded, planOf, Fits, newestOf, updateChange, summed};
+ghost use Rattle.plan.specs.Plans as plans;
 
 // The word of a SELECT that finds an entry.
 fn select_word(r: Row) -> usize
@@ -164,7 +164,7 @@ pub fn search_records(
     ensures { λ d. ⌜ ((f : File) → f .row ≡ r → f .content ≡ part (now (files .entry)) (r .start) (r .size) → planOf d (now («data» .entry)) (now (made .exit)) ≡ plans.search format c (now («data» .entry)) s f) × (d .change ≡ Change.Nothing) ⌝ }
 {
     let number = record_of(c, s.number as usize, r);
-    let n = command::search::search(files, r, c.p2, number, data, made);
+    let n = crate::search::search(files, r, c.p2, number, data, made);
     if n == 0 {
         return done(s, 0x6282, Change::Nothing);
     }
@@ -187,7 +187,7 @@ pub fn increase(
     let record = r.record;
     let at = r.start + card::records::record_offset(r, 1);
     let end = at + record;
-    let carry = command::sum::add(&files[at..end], data, made);
+    let carry = crate::sum::add(&files[at..end], data, made);
     if carry != 0 {
         return failed(s, 0x9850);
     }

@@ -1,6 +1,8 @@
-// What a command comes to: what its instruction does, before anything is stored, and doing it.
-pub mod act;
+// What a command comes to: what its instruction does, before anything is stored.
 pub mod does;
+pub mod records;
+pub mod search;
+pub mod sum;
 
 use command::Format;
 use command::Outcome;
@@ -10,8 +12,8 @@ ghost use mathlib.Core.List.{List};
 ghost use Prim.Native.Nat.{ℕ, _≤_, _<_};
 ghost use lib.ListN.{length};
 ghost use Rattle.octets.specs.Bytes.{overwrite};
-ghost use Rattle.command.specs.Outcomes as spec;
-ghost use Rattle.plan.specs.Decisions.{writesOf, planOf};
+ghost use Rattle.plan.specs.Ends as spec;
+ghost use Rattle.plan.specs.Promised.{writesOf, planOf};
 
 // A new record of a cyclic file: the file's entry number, start, size and record length, and the oldest place.
 pub struct NewRecord {

@@ -1,2 +1,6 @@
+pub mod Acts
 pub mod Limited
+pub mod Keeps
+pub mod Handed
+pub mod Errors
 pub mod Walks

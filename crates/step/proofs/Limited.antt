@@ -16,16 +16,17 @@ use Rattle.journal.proofs.Parts.{card-table}
 use Rattle.session.specs.declared.Standing.{Standing}
 use Rattle.command.specs.declared.Format.{Format}
 use Rattle.command.specs.declared.Command.{Command}
-use Rattle.command.specs.Outcomes.{Plan, failed, dataCount}
-use Rattle.command.specs.Commands.{situation, planned}
-use Rattle.command.proofs.Planned.{planned-fit}
+use Rattle.plan.specs.Ends.{Plan, failed}
+use Rattle.command.specs.Outcomes.{dataCount}
+use Rattle.decide.specs.Decisions.{situation, planned}
+use Rattle.decide.proofs.Planned.{planned-fit}
 use Rattle.command.proofs.Outgoing.{data-few}
 use Rattle.plan.specs.declared.Decision.{Decision}
 use Rattle.plan.specs.declared.Change.the-variants.{Nothing}
-use Rattle.plan.specs.Decisions.{planOf}
+use Rattle.plan.specs.Promised.{planOf}
 use Rattle.plan.proofs.Inside.{none-fits}
 use Rattle.step.specs.Limits.{rapduSize, mostKept, limited}
-use Rattle.decide.specs.Decisions.{Ready, Decided}
+use Rattle.decide.specs.Promised.{Ready, Decided}
 
 -- whether the R-APDU of a command with n data bytes counts and would pass the 1,000 bytes
 abbrev pub passes : ℕ → Bool → ℕ → Bool

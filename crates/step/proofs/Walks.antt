@@ -31,8 +31,8 @@ use Rattle.command.proofs.Format as F
 use Rattle.command.proofs.Format.Laws as F′
 use Rattle.command.proofs.Command as C
 use Rattle.command.proofs.Command.Laws as C′
-use Rattle.plan.specs.Decisions.{movedTo}
-use Rattle.step.specs.Steps.{MayRun, commanded}
+use Rattle.step.specs.Steps.{movedTo, commanded}
+use Rattle.step.specs.Promised.{MayRun}
 
 -- the machine values of a session and of a slice
 abbrev pub low : Standing → Val

@@ -7,7 +7,8 @@ use lib.Dec.{ltb}
 use Rattle.octets.specs.Choice.{pick}
 use Rattle.tlv.specs.Lengths.{lengthBytes}
 use Rattle.session.specs.declared.Standing.{Standing}
-use Rattle.command.specs.Outcomes.{Plan, failed, dataCount}
+use Rattle.plan.specs.Ends.{Plan, failed}
+use Rattle.command.specs.Outcomes.{dataCount}
 
 -- how many bytes an R-APDU takes whose data are n bytes: "23, length, data, status"
 unfoldable pub rapduSize : ℕ → ℕ

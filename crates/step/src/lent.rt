@@ -9,9 +9,9 @@ ghost use mathlib.Core.Path.{_≡_};
 ghost use Prim.Native.Nat.{_+_};
 ghost use lib.ListN.{length};
 ghost use Rattle.card.specs.Row.{lent};
-ghost use Rattle.command.specs.Commands.{stateOf, stepped};
-ghost use Rattle.plan.specs.Decisions.{movedTo};
+ghost use Rattle.step.specs.Steps.{stateOf, stepped, movedTo};
 ghost use Rattle.step.specs.Steps as spec;
+ghost use Rattle.step.specs.Promised.{MayRun};
 
 // How a command ended, and how many there were with it.
 pub struct Ended {
@@ -35,7 +35,7 @@ fn step(
     files: &mut [u8],
     journal: &mut [u8],
 ) -> Ended
-    requires { ⌜ spec.MayRun (lent (now table) (now files) (now journal)) (now session) c (length (now «data»)) count kept (now made) (now waiting) ⌝ }
+    requires { ⌜ MayRun (lent (now table) (now files) (now journal)) (now session) c (length (now «data»)) count kept (now made) (now waiting) ⌝ }
     ensures { λ r. ⌜ (movedTo (now (session .exit)) (r .outcome) (now (waiting .exit)) (lent (now (table .exit)) (now (files .exit)) (now (journal .exit)))
         ≡ spec.commanded format domain c (now («data» .entry)) (now (session .entry)) kept counts (now (waiting .entry)) (lent (now (table .entry)) (now (files .entry)) (now (journal .entry))))
         × (r .count ≡ count + 1) ⌝ }
@@ -77,7 +77,7 @@ pub fn run_step(
     files: &mut [u8],
     journal: &mut [u8],
 ) -> Step
-    requires { ⌜ spec.MayRun (lent (now table) (now files) (now journal)) (before .session) c (length (now «data»)) (before .count) kept (now made) (now waiting) ⌝ }
+    requires { ⌜ MayRun (lent (now table) (now files) (now journal)) (before .session) c (length (now «data»)) (before .count) kept (now made) (now waiting) ⌝ }
     ensures { λ r. ⌜ stateOf r (now (waiting .exit)) (lent (now (table .exit)) (now (files .exit)) (now (journal .exit)))
         ≡ stepped (stateOf before (now (waiting .entry)) (lent (now (table .entry)) (now (files .entry)) (now (journal .entry))))
         (spec.commanded format domain c (now («data» .entry)) (before .session) kept counts (now (waiting .entry)) (lent (now (table .entry)) (now (files .entry)) (now (journal .entry)))) ⌝ }

@@ -1,20 +1,22 @@
 // One command on a card: decided first, with nothing of the card lent to be written, and then done.
+mod act;
 pub mod lent;
 pub mod limit;
 
+use act::carry_out;
 use command::Command;
 use command::Format;
 use command::Step;
 use decide::decide;
 use limit::limited;
-use plan::act::carry_out;
 use session::Standing;
 ghost use mathlib.Core.Path.{_≡_};
 ghost use Prim.Native.Nat.{_+_};
 ghost use lib.ListN.{length};
 ghost use Rattle.card.specs.Row.{lent};
-ghost use Rattle.plan.specs.Decisions.{movedTo};
+ghost use Rattle.step.specs.Steps.{movedTo};
 ghost use Rattle.step.specs.Steps as spec;
+ghost use Rattle.step.specs.Promised.{MayRun};
 
 // One command on a card, with its data, in a session and after `count` others, where so many bytes of R-APDUs are kept and this one
 // counts or not: the script's step after it. What it makes stands in lent bytes until it is done.
@@ -33,7 +35,7 @@ pub fn run_command(
     files: &mut [u8],
     journal: &mut [u8],
 ) -> Step
-    requires { ⌜ spec.MayRun (lent (now table) (now files) (now journal)) s c (length (now «data»)) count kept (now made) (now waiting) ⌝ }
+    requires { ⌜ MayRun (lent (now table) (now files) (now journal)) s c (length (now «data»)) count kept (now made) (now waiting) ⌝ }
     ensures { λ r. ⌜ (movedTo (r .session) (r .outcome) (now (waiting .exit)) (lent (now (table .exit)) (now (files .exit)) (now (journal .exit)))
         ≡ spec.commanded format domain c (now («data» .entry)) s kept counts (now (waiting .entry)) (lent (now (table .entry)) (now (files .entry)) (now (journal .entry))))
         × (r .count ≡ count + 1) ⌝ }

@@ -8,9 +8,10 @@ ghost use mathlib.Core.Path.{_≡_};
 ghost use mathlib.Core.List.{List};
 ghost use Prim.Native.Nat.{ℕ, _+_, _≤_, _<_};
 ghost use Rattle.card.specs.Row.{Card};
-ghost use Rattle.command.specs.Outcomes.{Plan, dataCount};
+ghost use Rattle.plan.specs.Ends.{Plan};
+ghost use Rattle.command.specs.Outcomes.{dataCount};
 ghost use Rattle.step.specs.Limits as spec;
-ghost use Rattle.decide.specs.Decisions.{Decided};
+ghost use Rattle.decide.specs.Promised.{Decided};
 
 const MOST_KEPT: usize = 1000;
 

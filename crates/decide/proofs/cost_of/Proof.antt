@@ -1,8 +1,8 @@
 -- `decide::cost_of` meets its contract: the cost of each change. Assumes nothing.
 use native.Mathlib.Omega.{arith}
 use borrow.Author.Needs.{needs}
-use Rattle.plan.specs.Decisions.{Brief}
-use Rattle.plan.proofs.Acts.{costOf, known-cost, known-brief}
+use Rattle.plan.specs.Promised.{Brief}
+use Rattle.decide.proofs.Costs.{costOf, known-cost, known-brief}
 use Rattle.decide.proofs.cost_of.Statement.{statement}
 use Rattle.decide.proofs.cost_of.Tie as tie
 

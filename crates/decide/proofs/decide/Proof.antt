@@ -13,16 +13,17 @@ use Rattle.session.proofs.Template.{fcp-fits}
 use Rattle.session.proofs.Owned.{parents-inside}
 use Rattle.session.proofs.Good.{find-belongs}
 use Rattle.command.specs.declared.Format.the-variants.{Compact}
-use Rattle.command.specs.Outcomes.{failed}
-use Rattle.command.specs.Plans.{Situation}
-use Rattle.command.specs.Checks.{formalChecks, firstFailing, failWord, FirstWord, Formal}
-use Rattle.command.specs.Commands.{situation, planned}
+use Rattle.plan.specs.Ends.{failed}
+use Rattle.plan.specs.Plans.{Situation}
+use Rattle.decide.specs.Order.{formalChecks}
+use Rattle.decide.specs.Fails.{firstFailing}
+use Rattle.decide.specs.Promised.{failWord, FirstWord, Formal, behindForm, Unroomed, Decided}
+use Rattle.decide.specs.Decisions.{situation, planned}
 use Rattle.plan.specs.declared.Change.{Change}
 use Rattle.plan.specs.declared.Change.the-variants.{Nothing}
 use Rattle.plan.specs.declared.Decision.{Decision}
-use Rattle.plan.specs.Decisions.{planOf, Fits, Brief}
-use Rattle.decide.specs.Decisions.{behindForm, Unroomed, Decided}
-use Rattle.plan.proofs.Acts.{fits-brief}
+use Rattle.plan.specs.Promised.{planOf, Fits, Brief}
+use Rattle.decide.proofs.Costs.{fits-brief}
 use Rattle.decide.proofs.Plans.{formal-none, form-fails, behind, behind-select, behind-response, none-known, unknown-fails, Fails, nothing-decided}
 use Rattle.decide.proofs.Passed.{able, own-formal, journal-parts, journal-inside, WithRoom, room-decided}
 use Rattle.decide.proofs.decide.Statement.{statement}

@@ -8,9 +8,9 @@ use Rattle.octets.proofs.Picks.{told-false, told-true}
 use Rattle.card.specs.declared.tree.Found.the-variants as Found
 use Rattle.session.specs.Select.{find, rowFound}
 use Rattle.command.specs.declared.Command.{Command}
-use Rattle.command.specs.Outcomes.{failed}
-use Rattle.command.specs.Plans.{Situation, selectEntry}
-use Rattle.command.specs.Checks.{pathLengthFits}
+use Rattle.plan.specs.Ends.{failed}
+use Rattle.plan.specs.Plans.{Situation, selectEntry}
+use Rattle.decide.specs.Fails.{pathLengthFits}
 use Rattle.decide.proofs.Plans.{path-some, select-wrong, select-lost, select-found}
 use borrow.Author.Needs.{needs}
 use Rattle.decide.proofs.decide_select.Statement.{statement}

@@ -1,10 +1,10 @@
 -- `decide::get_response` meets its contract: each arm is the one that the definition picks. Assumes nothing.
 use borrow.Author.Tests.{eq-eqb, ne-eqb, le-leb, lt-leb}
 use Rattle.octets.specs.Choice.{pick}
-use Rattle.command.specs.Plans.{getResponse}
+use Rattle.plan.specs.Plans.{getResponse}
 use Rattle.command.specs.Checks.{checkWord}
-use Rattle.plan.specs.Decisions.{planOf, writesOf}
-use Rattle.decide.specs.Decisions.{responded}
+use Rattle.plan.specs.Promised.{planOf, writesOf}
+use Rattle.decide.specs.Promised.{responded}
 use borrow.Author.Needs.{needs}
 use Rattle.decide.proofs.get_response.Statement.{statement}
 use Rattle.decide.proofs.get_response.Tie as tie

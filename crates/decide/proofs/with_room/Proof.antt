@@ -5,11 +5,11 @@ use native.Mathlib.Omega.{arith}
 use borrow.Author.Needs.{needs}
 use Rattle.octets.proofs.Picks.{le-yes, le-no}
 use Rattle.journal.specs.Changes.{cost}
-use Rattle.command.specs.Outcomes.{failed}
+use Rattle.plan.specs.Ends.{failed}
 use Rattle.command.specs.Checks.{checkWord, journalFull}
-use Rattle.plan.specs.Decisions.{planOf, writesOf}
+use Rattle.plan.specs.Promised.{planOf, writesOf}
 use Rattle.plan.proofs.Inside.{none-fits}
-use Rattle.decide.specs.Decisions.{roomed}
+use Rattle.decide.specs.Promised.{roomed}
 use Rattle.decide.proofs.with_room.Statement.{statement}
 use Rattle.decide.proofs.with_room.Tie as tie
 

@@ -1,7 +1,7 @@
 -- `plan::done` meets its contract: what waited is dropped. Assumes nothing.
 use mathlib.Core.Path.{refl}
-use Rattle.command.specs.Outcomes.{done}
-use Rattle.plan.specs.Decisions.{planOf}
+use Rattle.plan.specs.Ends.{done}
+use Rattle.plan.specs.Promised.{planOf}
 use borrow.Author.Needs.{needs}
 use Rattle.plan.proofs.done.Statement.{statement}
 use Rattle.plan.proofs.done.Tie as tie

@@ -1,7 +1,7 @@
 -- `plan::failed` meets its contract. Assumes nothing.
 use mathlib.Core.Path.{refl}
-use Rattle.command.specs.Outcomes.{failed}
-use Rattle.plan.specs.Decisions.{planOf, writesOf}
+use Rattle.plan.specs.Ends.{failed}
+use Rattle.plan.specs.Promised.{planOf, writesOf}
 use Rattle.plan.proofs.failed.Statement.{statement}
 use Rattle.plan.proofs.failed.Tie as tie
 

@@ -1,7 +1,7 @@
 -- `plan::handed` meets its contract: what waited is dropped. Assumes nothing.
 use mathlib.Core.Path.{refl}
-use Rattle.command.specs.Outcomes.{handed}
-use Rattle.plan.specs.Decisions.{planOf, writesOf}
+use Rattle.plan.specs.Ends.{handed}
+use Rattle.plan.specs.Promised.{planOf, writesOf}
 use borrow.Author.Needs.{needs}
 use Rattle.plan.proofs.handed.Statement.{statement}
 use Rattle.plan.proofs.handed.Tie as tie

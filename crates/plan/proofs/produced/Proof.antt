@@ -1,7 +1,7 @@
 -- `plan::produced` meets its contract in each format. Assumes nothing.
 use mathlib.Core.Path.{refl}
-use Rattle.command.specs.Outcomes.{produced}
-use Rattle.plan.specs.Decisions.{planOf}
+use Rattle.plan.specs.Ends.{produced}
+use Rattle.plan.specs.Promised.{planOf}
 use Rattle.plan.proofs.Made.{taken}
 use borrow.Author.Needs.{needs}
 use Rattle.plan.proofs.produced.Statement.{statement}

@@ -6,8 +6,8 @@ use Rattle.card.specs.Row.{Card, lent}
 use Rattle.journal.specs.Entries.{HasRoom}
 use Rattle.journal.specs.Changes.{cost}
 use Rattle.journal.proofs.Parts.{card-parts}
-use Rattle.command.specs.Outcomes.{Plan}
-use Rattle.command.specs.Commands.{carriedOut}
+use Rattle.plan.specs.Ends.{Plan}
+use Rattle.step.specs.Steps.{carriedOut}
 use Rattle.step.proofs.Limited.{decided-few}
 use borrow.Author.Needs.{needs}
 use Rattle.step.proofs.run_command.Statement.{statement}

@@ -9,7 +9,8 @@ use lib.Seq.{length-take-le}
 use Rattle.octets.specs.Bytes.{overwrite}
 use Rattle.octets.proofs.Writes.{part-length, write-none}
 use Rattle.command.specs.declared.Outcome.{Outcome}
-use Rattle.command.specs.Outcomes.{dataOf, dataCount, OutcomeFits}
+use Rattle.command.specs.Outcomes.{dataOf, dataCount}
+use Rattle.command.specs.Promised.{OutcomeFits}
 use Rattle.command.proofs.Outgoing.{known-fits, known-room, known-data}
 use Rattle.command.proofs.ends.put_data.Statement.{statement}
 use Rattle.command.proofs.ends.put_data.Tie as tie

@@ -1,5 +1,5 @@
 -- `command::instruction::case_of` meets its contract: each arm is the one that the definition picks. Assumes nothing.
-use Rattle.command.proofs.Order.{choices}
+use Rattle.octets.proofs.Picks.{choices}
 use Rattle.command.specs.Instructions.{caseOf}
 use borrow.Author.Needs.{needs}
 use Rattle.command.proofs.instruction.case_of.Statement.{statement}

@@ -1,6 +1,6 @@
 -- `command::instruction::never_bit` meets its contract: each arm is the one that the definition picks. Assumes nothing.
 use native.Mathlib.Omega.{arith}
-use Rattle.command.proofs.Order.{choices}
+use Rattle.octets.proofs.Picks.{choices}
 use Rattle.command.specs.Instructions.{neverBit}
 use Rattle.command.proofs.instruction.never_bit.Statement.{statement}
 use Rattle.command.proofs.instruction.never_bit.Tie as tie

@@ -1,6 +1,6 @@
 -- `compact::read::data_behind` meets its contract: each arm is the one that the definition picks. Assumes nothing.
 use native.Mathlib.Omega.{arith}
-use Rattle.command.proofs.Order.{choices}
+use Rattle.octets.proofs.Picks.{choices}
 use Rattle.compact.specs.Compact.{dataBehind}
 use borrow.Author.Needs.{needs}
 use Rattle.compact.proofs.read.data_behind.Statement.{statement}

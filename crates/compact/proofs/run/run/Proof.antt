@@ -8,8 +8,8 @@ use Rattle.octets.proofs.Picks.{told-false, told-true}
 use Rattle.card.specs.Row.{lent}
 use Rattle.command.specs.declared.Outcome.the-variants.{Well}
 use Rattle.command.specs.Outcomes.{goesOn}
-use Rattle.command.specs.Commands.{started}
-use Rattle.command.proofs.Keeps.{starts-small}
+use Rattle.step.specs.Steps.{started}
+use Rattle.step.proofs.Keeps.{starts-small}
 use Rattle.compact.specs.Compact.{placeAfter}
 use Rattle.compact.proofs.Going.{Going, begins, ends, stops, goes}
 use Rattle.compact.proofs.run.run.Statement.{statement}

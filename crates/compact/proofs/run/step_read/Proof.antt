@@ -12,10 +12,10 @@ use Rattle.card.specs.Row.{Card, lent}
 use Rattle.command.specs.declared.Format.the-variants.{Compact}
 use Rattle.command.specs.declared.Reading.{Reading}
 use Rattle.command.specs.declared.Step.{Step}
-use Rattle.command.specs.Commands.{State, stateOf, situation, planned, carriedOut, stepped}
+use Rattle.step.specs.Steps.{State, stateOf, carriedOut, stepped, commanded}
+use Rattle.decide.specs.Decisions.{situation, planned}
 use Rattle.command.proofs.Lent.{lent-bytes}
 use Rattle.step.specs.Limits.{limited}
-use Rattle.step.specs.Steps.{commanded}
 use Rattle.compact.specs.Compact.{placeAfter, stepRead}
 use Rattle.compact.proofs.run.step_read.Statement.{statement}
 use Rattle.compact.proofs.run.step_read.Tie as tie

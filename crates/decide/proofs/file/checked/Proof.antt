@@ -1,7 +1,8 @@
 -- `decide::file::checked` meets its contract: the formal checks, and then those that look at the file's row. Assumes nothing.
 use mathlib.Core.Path.{sym, ap, _∙_}
 use borrow.Author.Needs.{needs}
-use Rattle.command.specs.Checks.{formalChecks, boundChecks, failWord}
+use Rattle.decide.specs.Order.{formalChecks, boundChecks}
+use Rattle.decide.specs.Promised.{failWord}
 use Rattle.decide.proofs.Plans.{first-before, first-behind, formal-none}
 use Rattle.decide.proofs.file.checked.Statement.{statement}
 use Rattle.decide.proofs.file.checked.Tie as tie

@@ -2,9 +2,9 @@
 use mathlib.Core.Path.{refl, sym}
 use borrow.Author.Needs.{needs}
 use Rattle.octets.specs.Choice.{pick}
-use Rattle.command.specs.Files.{fileAt}
-use Rattle.command.specs.Plans.{doneBy}
-use Rattle.command.specs.Commands.{situation}
+use Rattle.plan.specs.Files.{fileAt}
+use Rattle.plan.specs.Plans.{doneBy}
+use Rattle.decide.specs.Decisions.{situation}
 use Rattle.plan.proofs.Inside.{none-fits}
 use Rattle.decide.proofs.Passed.{of-records, has-named, entry-inside, to-check, check-failed, check-passed, check-plainly}
 use Rattle.decide.proofs.file.search.Statement.{statement}

@@ -2,10 +2,10 @@
 use mathlib.Core.Path.{refl, sym}
 use borrow.Author.Needs.{needs}
 use Rattle.octets.specs.Choice.{pick}
-use Rattle.command.specs.Files.{fileAt}
-use Rattle.command.specs.Plans.{doneBy}
-use Rattle.command.specs.Commands.{situation}
-use Rattle.plan.specs.Decisions.{Fits}
+use Rattle.plan.specs.Files.{fileAt}
+use Rattle.plan.specs.Plans.{doneBy}
+use Rattle.decide.specs.Decisions.{situation}
+use Rattle.plan.specs.Promised.{Fits}
 use Rattle.decide.proofs.Passed.{to-update, entry-inside, to-check, check-failed, check-passed, check-plainly}
 use Rattle.decide.proofs.file.update_binary.Statement.{statement}
 use Rattle.decide.proofs.file.update_binary.Tie as tie

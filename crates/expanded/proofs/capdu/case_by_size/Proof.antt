@@ -1,5 +1,5 @@
 -- `expanded::capdu::case_by_size` meets its contract: each arm is the one that the definition picks. Assumes nothing.
-use Rattle.command.proofs.Order.{choices}
+use Rattle.octets.proofs.Picks.{choices}
 use Rattle.expanded.specs.Capdu.{caseBySize}
 use Rattle.expanded.proofs.Fits.{case-told}
 use borrow.Author.Needs.{needs}

@@ -9,8 +9,8 @@ use Rattle.octets.proofs.Writes.{part-length}
 use Rattle.card.specs.Row.{lent}
 use Rattle.command.specs.declared.Outcome.the-variants.{Well}
 use Rattle.command.specs.Outcomes.{goesOn}
-use Rattle.command.specs.Commands.{started}
-use Rattle.command.proofs.Keeps.{starts-small}
+use Rattle.step.specs.Steps.{started}
+use Rattle.step.proofs.Keeps.{starts-small}
 use Rattle.expanded.proofs.Going.{capdu-lies, bad-lies, Going, begins, ends, breaks, stops, goes}
 use Rattle.expanded.proofs.run.run.Statement.{statement}
 use Rattle.expanded.proofs.run.run.Tie as tie

@@ -9,7 +9,8 @@ use borrow.Author.Needs.{needs}
 use Rattle.octets.proofs.Writes.{part-lent}
 use Rattle.card.specs.Row.{Card, lent}
 use Rattle.session.specs.Session.{mostWaiting}
-use Rattle.command.specs.Outcomes.{wordOf, dataCount, OutcomeFits, goesOn}
+use Rattle.command.specs.Outcomes.{wordOf, dataCount, goesOn}
+use Rattle.command.specs.Promised.{OutcomeFits}
 use Rattle.command.proofs.Lent.{lent-bytes}
 use Rattle.step.specs.Limits.{rapduSize, mostKept}
 use Rattle.expanded.specs.Expanded.{roomToGather}

@@ -5,11 +5,12 @@ use native.Mathlib.Omega.{arith}
 use lib.ListN.{length}
 use Rattle.octets.specs.Bytes.{part, bytesOf}
 use Rattle.session.specs.Session.{atRecord}
-use Rattle.command.specs.Outcomes.{normal, produced}
-use Rattle.command.specs.Files.{File, sum}
-use Rattle.command.specs.Plans as plans
+use Rattle.command.specs.Outcomes.{normal}
+use Rattle.plan.specs.Ends.{produced}
+use Rattle.plan.specs.Files.{File, sum}
+use Rattle.plan.specs.Plans as plans
 use Rattle.plan.specs.declared.Change.the-variants.{SumRecord}
-use Rattle.plan.specs.Decisions.{writesOf, Fits, newestOf}
+use Rattle.plan.specs.Promised.{writesOf, Fits, newestOf}
 use Rattle.plan.proofs.Inside.{none-fits, newest-fits}
 use Rattle.plan.proofs.Sums.{Raised, sum-fails, sum-done, new-bytes, new-count, new-writes}
 use borrow.Author.Needs.{needs}

@@ -1,5 +1,5 @@
 -- `plan::does::most_read` meets its contract in each format. Assumes nothing.
-use Rattle.command.specs.Plans.{mostRead}
+use Rattle.plan.specs.Plans.{mostRead}
 use borrow.Author.Needs.{needs}
 use Rattle.plan.proofs.does.most_read.Statement.{statement}
 use Rattle.plan.proofs.does.most_read.Tie as tie

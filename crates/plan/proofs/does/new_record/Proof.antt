@@ -1,5 +1,5 @@
 -- `plan::does::new_record` meets its contract. Assumes nothing.
-use Rattle.plan.specs.Decisions.{newestOf}
+use Rattle.plan.specs.Promised.{newestOf}
 use borrow.Author.Needs.{needs}
 use Rattle.plan.proofs.does.new_record.Statement.{statement}
 use Rattle.plan.proofs.does.new_record.Tie as tie

@@ -3,7 +3,7 @@ use mathlib.Core.Path.{_∙_}
 use native.Mathlib.Omega.{arith}
 use borrow.Author.Tests.{eq-eqb, ne-eqb, le-leb, lt-leb}
 use Rattle.octets.specs.Choice.{pick}
-use Rattle.command.specs.Plans.{offsetOf, readBinary}
+use Rattle.plan.specs.Plans.{offsetOf, readBinary}
 use borrow.Author.Needs.{needs}
 use Rattle.plan.proofs.does.read_binary.Statement.{statement}
 use Rattle.plan.proofs.does.read_binary.Tie as tie

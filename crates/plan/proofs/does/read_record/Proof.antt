@@ -2,7 +2,7 @@
 use mathlib.Core.Path.{_∙_}
 use Prim.Native.Nat.{_<_}
 use native.Mathlib.Omega.{arith}
-use Rattle.command.specs.Plans.{atNamed, readRecord}
+use Rattle.plan.specs.Plans.{atNamed, readRecord}
 use Rattle.plan.proofs.Made.{after-small}
 use borrow.Author.Needs.{needs}
 use Rattle.plan.proofs.does.read_record.Statement.{statement}

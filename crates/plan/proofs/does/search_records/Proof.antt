@@ -5,11 +5,12 @@ use Prim.Native.Nat.{ℕ, _≤_}
 use native.Mathlib.Omega.{arith}
 use lib.ListN.{length}
 use Rattle.octets.specs.Bytes.{byte, part}
-use Rattle.command.specs.Files.{File, foundRecords}
-use Rattle.command.specs.Outcomes.{normal, produced}
-use Rattle.command.specs.Plans.{namedBy, searched}
-use Rattle.command.specs.Plans as plans
-use Rattle.plan.specs.Decisions.{writesOf}
+use Rattle.plan.specs.Files.{File, foundRecords}
+use Rattle.command.specs.Outcomes.{normal}
+use Rattle.plan.specs.Ends.{produced}
+use Rattle.plan.specs.Plans.{namedBy, searched}
+use Rattle.plan.specs.Plans as plans
+use Rattle.plan.specs.Promised.{writesOf}
 use Rattle.plan.proofs.Made.{write-short, searched-none, searched-some}
 use borrow.Author.Needs.{needs}
 use Rattle.plan.proofs.does.search_records.Statement.{statement}

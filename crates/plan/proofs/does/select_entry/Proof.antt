@@ -7,9 +7,9 @@ use Rattle.octets.proofs.Picks.{eq-yes, eq-no, on-pick}
 use Rattle.card.specs.declared.Row.{Row}
 use Rattle.card.specs.Row.{isDeactivated}
 use Rattle.session.specs.Fcp.{fcp}
-use Rattle.command.specs.Outcomes.{done, produced}
-use Rattle.command.specs.Plans.{selectWord, selectEntry}
-use Rattle.plan.specs.Decisions.{writesOf}
+use Rattle.plan.specs.Ends.{done, produced}
+use Rattle.plan.specs.Plans.{selectWord, selectEntry}
+use Rattle.plan.specs.Promised.{writesOf}
 use borrow.Author.Needs.{needs}
 use Rattle.plan.proofs.does.select_entry.Statement.{statement}
 use Rattle.plan.proofs.does.select_entry.Tie as tie

@@ -1,6 +1,6 @@
 -- `plan::does::select_word` meets its contract: each arm is the one that the definition picks. Assumes nothing.
 use Rattle.octets.proofs.Picks.{picks}
-use Rattle.command.specs.Plans.{selectWord}
+use Rattle.plan.specs.Plans.{selectWord}
 use Rattle.plan.proofs.does.select_word.Statement.{statement}
 use Rattle.plan.proofs.does.select_word.Tie as tie
 

@@ -1,7 +1,7 @@
 -- `plan::does::switch` meets its contract. Assumes nothing.
 use mathlib.Core.Path.{_∙_}
-use Rattle.command.specs.Plans.{switch}
-use Rattle.plan.specs.Decisions.{writesOf}
+use Rattle.plan.specs.Plans.{switch}
+use Rattle.plan.specs.Promised.{writesOf}
 use borrow.Author.Needs.{needs}
 use Rattle.plan.proofs.does.switch.Statement.{statement}
 use Rattle.plan.proofs.does.switch.Tie as tie

@@ -1,8 +1,8 @@
 -- `plan::does::update_binary` meets its contract. Assumes nothing.
 use mathlib.Core.Path.{_∙_}
-use Rattle.command.specs.Files.{writeIn}
-use Rattle.command.specs.Plans.{offsetOf, updateBinary}
-use Rattle.plan.specs.Decisions.{writesOf}
+use Rattle.plan.specs.Files.{writeIn}
+use Rattle.plan.specs.Plans.{offsetOf, updateBinary}
+use Rattle.plan.specs.Promised.{writesOf}
 use borrow.Author.Needs.{needs}
 use Rattle.plan.proofs.does.update_binary.Statement.{statement}
 use Rattle.plan.proofs.does.update_binary.Tie as tie

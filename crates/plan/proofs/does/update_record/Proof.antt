@@ -4,9 +4,9 @@ use Prim.Native.Nat.{_<_}
 use native.Mathlib.Omega.{arith}
 use borrow.Author.Tests.{eq-eqb, ne-eqb}
 use Rattle.octets.specs.Choice.{pick}
-use Rattle.command.specs.Files.{writeIn, newRecord}
-use Rattle.command.specs.Plans.{atNamed, updateRecord}
-use Rattle.plan.specs.Decisions.{recordWrites, writesOf, newestOf, updateChange}
+use Rattle.plan.specs.Files.{writeIn, newRecord}
+use Rattle.plan.specs.Plans.{atNamed, updateRecord}
+use Rattle.plan.specs.Promised.{recordWrites, writesOf, newestOf, updateChange}
 use Rattle.plan.proofs.Made.{after-small}
 use borrow.Author.Needs.{needs}
 use Rattle.plan.proofs.does.update_record.Statement.{statement}

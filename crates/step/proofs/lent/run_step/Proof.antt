@@ -53,14 +53,13 @@ use Rattle.session.proofs.Standing.Laws as S′
 use Rattle.command.specs.declared.Format.{Format}
 use Rattle.command.specs.declared.Command.{Command}
 use Rattle.command.specs.declared.Step.{Step}
-use Rattle.command.specs.Commands.{Moved, stateOf, stepped}
+use Rattle.step.specs.Steps.{Moved, stateOf, stepped, movedTo}
 use Rattle.command.proofs.Format as F
 use Rattle.command.proofs.Format.Laws as F′
 use Rattle.command.proofs.Command as C
 use Rattle.command.proofs.Command.Laws as C′
 use Rattle.command.proofs.Step as T
 use Rattle.command.proofs.Step.Laws as T′
-use Rattle.plan.specs.Decisions.{movedTo}
 use Rattle.step.specs.declared.lent.Ended.{Ended}
 use Rattle.step.proofs.lent.Ended as E
 use Rattle.step.proofs.lent.Ended.Laws as E′

@@ -1,0 +1,19 @@
+-- What promises speak of besides the rules: numbers that are bytes, and where data lie.
+use Prim.Native.Nat.{ℕ, _+_, _≤_, _<_}
+use Rattle.command.specs.declared.Command.{Command}
+use Rattle.command.specs.declared.Outcome.{Outcome}
+use Rattle.command.specs.declared.Outcome.the-variants.{Well, FromFiles, FromWaiting, Error}
+
+-- a command's parameters and the number of its data bytes are bytes
+pub record OfBytes (c : Command) (lc : ℕ) : Type 0 where
+  pub p1 : c .p1 < 256
+  pub p2 : c .p2 < 256
+  pub p3 : c .p3 < 256
+  pub brief : lc < 256
+
+-- the data of an outcome lie in a file memory of so many bytes, 256 at most, or in the 255 waiting bytes
+unfoldable pub OutcomeFits : ℕ → Outcome → Type 0
+OutcomeFits files (Well word) = Unit
+OutcomeFits files (FromFiles word place n) = (place + n ≤ files) × (n ≤ 256)
+OutcomeFits files (FromWaiting word n) = n ≤ 255
+OutcomeFits files (Error word) = Unit

@@ -1,0 +1,53 @@
+-- The journal bytes that a change takes, as the code counts them, and that what fits is brief. Assumes nothing.
+use mathlib.Core.Path.{_≡_, refl, sym, ap, subst, _∙_}
+use mathlib.Core.List.{List}
+use Prim.Native.Nat.{ℕ, _+_, _<_}
+use native.Mathlib.Omega.{arith}
+use lib.ListN.{length}
+use lib.Seq.{length-take-le}
+use Rattle.journal.specs.Changes.{cost}
+use Rattle.plan.specs.Promised.{recordWrites, writesOf, Fits, Brief}
+use Rattle.plan.specs.declared.Change.{Change}
+use Rattle.plan.specs.declared.Change.the-variants.{Nothing, Content, DataRecord, SumRecord, TableByte}
+
+-- the journal bytes that a change takes, with so many data bytes
+unfoldable pub costOf : Change → ℕ → ℕ
+costOf Nothing lc = 0
+costOf (Content start size offset) lc = 8 + lc
+costOf (DataRecord r) lc = 8 + lc + 9
+costOf (SumRecord r) lc = 8 + r .«record» + 9
+costOf (TableByte place new) lc = 9
+
+pub cost-told : (change : Change) («data» bytes : List ℕ) → Brief change → length bytes ≡ 255 → cost (writesOf change «data» bytes) ≡ costOf change (length «data»)
+unfolding Brief cost writesOf recordWrites costOf
+cost-told Nothing «data» bytes b w = refl
+cost-told (Content start size offset) «data» bytes b w = omega arith
+cost-told (DataRecord r) «data» bytes b w = omega arith
+cost-told (SumRecord r) «data» bytes b w = rw (length-take-le (r .«record») bytes (omega arith)) (omega arith)
+cost-told (TableByte place new) «data» bytes b w = refl
+
+cost-small : (change : Change) (lc : ℕ) → Brief change → lc < 256 → costOf change lc < 65536
+unfolding Brief costOf
+cost-small Nothing lc b h = omega arith
+cost-small (Content start size offset) lc b h = omega arith
+cost-small (DataRecord r) lc b h = omega arith
+cost-small (SumRecord r) lc b h = omega arith
+cost-small (TableByte place new) lc b h = omega arith
+
+-- what fits is brief
+pub fits-brief : (t f lc : ℕ) (change : Change) → Fits t f lc change → Brief change
+unfolding Fits Brief
+fits-brief t f lc Nothing h = tt
+fits-brief t f lc (Content start size offset) h = tt
+fits-brief t f lc (DataRecord r) h = tt
+fits-brief t f lc (SumRecord r) h = h .1
+fits-brief t f lc (TableByte place new) h = tt
+
+-- the cost of a change that is known
+pub known-brief : {change other : Change} → change ≡ other → Brief change → Brief other
+known-brief same = subst Brief same
+
+pub known-cost : {change other : Change} {lc : ℕ} → change ≡ other → Brief change → lc < 256 → ((«data» bytes : List ℕ) → length «data» ≡ lc → length bytes ≡ 255 → costOf other lc ≡ cost (writesOf change «data» bytes)) × (costOf other lc < 65536)
+known-cost {change} {other} {lc} same b h =
+    let e : costOf other lc ≡ costOf change lc = ap (λ (x : Change). costOf x lc) (sym same) in
+    (λ «data» bytes l w. e ∙ ap (costOf change) (sym l) ∙ sym (cost-told change «data» bytes b w), rw e (cost-small change lc b h))

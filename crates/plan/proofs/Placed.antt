@@ -1,0 +1,86 @@
+-- The writes of a command on its file are of a sound form where they go: in the file, at a record, at the oldest place, and at the state; and its records lie in the file memory. Assumes nothing.
+use mathlib.Core.Path.{_≡_}
+use mathlib.Core.Bool.{true}
+use mathlib.Core.List.{List, [], _∷_}
+use Prim.Native.Nat.{ℕ, _+_, _*_, _/_, _%_, _≤_, _<_}
+use native.Mathlib.Omega.{arith}
+use lib.ListN.{length}
+use borrow.Author.Tests.{le-leb, lt-ltb}
+use Rattle.octets.specs.Choice.{pick}
+use Rattle.octets.proofs.Picks.{and-both}
+use Rattle.card.specs.declared.Row.{Row}
+use Rattle.card.specs.Row.{Card, entries, rowOf, isFile, isCyclic, hasRecords, placeOfState}
+use Rattle.card.specs.Sound.{recordCount, newestSound, stateSound, ownSound, soundTable}
+use Rattle.card.specs.Records.{recordPlace, recordOffset, oldestPlace}
+use Rattle.card.proofs.Promises.{records-file, file-inside, record-some, record-short, records-some, entry-own}
+use Rattle.card.proofs.Places.{place-below, place-inside, offset-inside}
+use Rattle.journal.specs.Sound.{tableByteSound, tablePlaceSound, formSound}
+use Rattle.journal.specs.Changes.{tableMemory, kindFor}
+use Rattle.journal.proofs.Kept.{FormSound, AllForms}
+use Rattle.plan.specs.Files.{fileAt, writeIn, newRecord}
+
+newest-byte : (r : Row) (v : ℕ) → isCyclic r ≡ true → 1 ≤ r .«record» → v < recordCount r → tableByteSound r 9 v ≡ true
+unfolding tableByteSound newestSound pick
+newest-byte r v cyclic some below = rw (cyclic, le-leb 1 (r .«record») some) (lt-ltb v (recordCount r) below)
+
+module _ (card : Card) (sound : soundTable (card .table) (card .files) ≡ true) (e : ℕ) (here : e < entries (card .table)) where
+  abbrev r : Row
+  r = rowOf (card .table) e
+
+  own : ownSound (length (card .files)) r ≡ true
+  own = entry-own (card .table) (card .files) sound e here
+
+  -- bytes in the file
+  pub in-file : isFile r ≡ true → (offset : ℕ) (new : List ℕ) → 1 ≤ length new → length new ≤ 255 → offset + length new ≤ r .size → FormSound (writeIn (fileAt card e) offset new) card
+  unfolding writeIn fileAt kindFor formSound pick
+  in-file file offset new some few fits =
+      let inside = file-inside (length (card .files)) r own file in
+      and-both _ _ (le-leb 1 (length new) some)
+      (and-both _ _ (le-leb (length new) 255 few) (le-leb (r .start + offset + length new) (length (card .files)) (omega arith)))
+
+  -- a byte of its entry
+  in-entry : (k v : ℕ) → k < 16 → tableByteSound r k v ≡ true → tablePlaceSound (card .table) (16 * e + k) v ≡ true
+  unfolding tablePlaceSound
+  in-entry k v small ok =
+      let q : (16 * e + k) / 16 ≡ e = omega arith in
+      let m : (16 * e + k) % 16 ≡ k = omega arith in
+      rw (q, m) (and-both _ _ (lt-ltb e (entries (card .table)) here) ok)
+
+  pub in-state : isFile r ≡ true → (v : ℕ) → stateSound v ≡ true → FormSound (record { memory = tableMemory; place = placeOfState e; new = v ∷ [] }) card
+  unfolding kindFor formSound tableByteSound pick
+  in-state file v ok = in-entry 10 v (omega arith) (and-both _ _ file ok)
+
+  -- a record of the file
+  module _ (has : hasRecords r ≡ true) where
+    below : (k : ℕ) → recordPlace r k < recordCount r
+    unfolding recordPlace
+    below k = place-below (recordCount r) (r .newest) k (records-some (length (card .files)) r own has)
+
+    pub record-inside : (k : ℕ) → r .start + recordOffset r k + r .«record» ≤ length (card .files)
+    record-inside k =
+        let inside = file-inside (length (card .files)) r own (records-file r has) in
+        let within = offset-inside r (records-some (length (card .files)) r own has) k in
+        omega arith
+
+    -- one that is written, and a new one with the place that becomes newest
+    module _ (new : List ℕ) (fits : length new ≡ r .«record») where
+      at-place : (p : ℕ) → p < recordCount r → FormSound (writeIn (fileAt card e) (r .«record» * p) new) card
+      at-place p l =
+          let some = record-some (length (card .files)) r own has in
+          let short = record-short (length (card .files)) r own has in
+          in-file (records-file r has) (r .«record» * p) new (omega arith) (omega arith) (rw fits (place-inside r p l))
+
+      pub in-record : (k : ℕ) → FormSound (writeIn (fileAt card e) (recordOffset r k) new) card
+      unfolding recordOffset
+      in-record k = at-place (recordPlace r k) (below k)
+
+      pub in-newest : isCyclic r ≡ true → AllForms (newRecord (fileAt card e) new) card
+      unfolding newRecord fileAt oldestPlace kindFor formSound pick
+      in-newest cyclic = (
+        at-place (oldestPlace r) (below (recordCount r)),
+        (
+          in-entry 9 (oldestPlace r) (omega arith)
+              (newest-byte r (oldestPlace r) cyclic (record-some (length (card .files)) r own has) (below (recordCount r))),
+          tt,
+        ),
+      )

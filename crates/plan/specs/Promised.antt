@@ -1,0 +1,94 @@
+-- What promises speak of besides the rules: what a decision of the code stands for, where what it writes lies, and what every record file has.
+use Prim.Native.Nat.{ℕ, _+_, _*_, _≤_, _<_}
+use mathlib.Core.List.{List, [], _∷_}
+use mathlib.Core.Path.{_≡_}
+use lib.ListN.{take}
+use Rattle.octets.specs.Choice.{pick}
+use Rattle.card.specs.declared.Row.{Row}
+use Rattle.card.specs.Row.{Narrow, isCyclic, placeOfNewest}
+use Rattle.card.specs.Sound.{recordCount}
+use Rattle.card.specs.Records.{recordOffset, oldestPlace}
+use Rattle.journal.specs.Changes.{Write, fileMemory, tableMemory}
+use Rattle.session.specs.declared.Standing.{Standing}
+use Rattle.command.specs.declared.Command.{Command}
+use Rattle.command.specs.Checks.{sumTooLong, checkWord}
+use Rattle.plan.specs.declared.NewRecord.{NewRecord}
+use Rattle.plan.specs.declared.Change.{Change}
+use Rattle.plan.specs.declared.Change.the-variants.{Nothing, Content, DataRecord, SumRecord, TableByte}
+use Rattle.plan.specs.declared.Decision.{Decision}
+use Rattle.plan.specs.Ends.{Plan, failed}
+use Rattle.plan.specs.Files.{File, sumFits}
+use Rattle.plan.specs.Plans.{namedBy}
+
+-- what every record file of a sound table has, over a file memory of so many bytes
+pub record Recorded (files : ℕ) (r : Row) : Type 0 where
+  pub narrow : Narrow r
+  pub least : 1 ≤ r .«record»
+  pub counted : 1 ≤ recordCount r
+  pub most : recordCount r < 255
+  pub inside : r .start + r .size ≤ files
+
+-- the writes of a new record
+unfoldable pub recordWrites : NewRecord → List ℕ → List Write
+recordWrites r new =
+    record { memory = fileMemory; place = r .start + r .«record» * r .place; new = new }
+    ∷ record { memory = tableMemory; place = placeOfNewest (r .entry); new = r .place ∷ [] }
+    ∷ []
+
+-- the writes of a change, with the command's data and the bytes that it made
+unfoldable pub writesOf : Change → List ℕ → List ℕ → List Write
+writesOf Nothing «data» bytes = []
+writesOf (Content start size offset) «data» bytes =
+    record { memory = fileMemory; place = start + offset; new = «data» } ∷ []
+writesOf (DataRecord r) «data» bytes = recordWrites r «data»
+writesOf (SumRecord r) «data» bytes = recordWrites r (take (r .«record») bytes)
+writesOf (TableByte place new) «data» bytes = record { memory = tableMemory; place = place; new = new ∷ [] } ∷ []
+
+-- the plan of a decision, with the command's data and the bytes at whose start stands what it made
+unfoldable pub planOf : Decision → List ℕ → List ℕ → Plan
+planOf d «data» bytes =
+    record {
+      session = d .session;
+      outcome = d .outcome;
+      made = take (d .made) bytes;
+      writes = writesOf (d .change) «data» bytes;
+    }
+
+-- where a new record lies, in a table and a file memory of so many bytes
+pub record RecordFits (table files : ℕ) (r : NewRecord) : Type 0 where
+  pub file : r .start + r .size ≤ files
+  pub inside : r .«record» * r .place + r .«record» ≤ r .size
+  pub entry : placeOfNewest (r .entry) < table
+  pub byte : r .place < 256
+
+-- a change lies inside a table and a file memory of so many bytes, with so many data bytes and 255 bytes for what is made
+unfoldable pub Fits : ℕ → ℕ → ℕ → Change → Type 0
+Fits table files lc Nothing = Unit
+Fits table files lc (Content start size offset) = (start + size ≤ files) × (offset + lc ≤ size)
+Fits table files lc (DataRecord r) = RecordFits table files r × (lc ≡ r .«record»)
+Fits table files lc (SumRecord r) = RecordFits table files r × (r .«record» ≤ 255)
+Fits table files lc (TableByte place new) = (place < table) × (new < 256)
+
+-- the new record of a cyclic file
+unfoldable pub newestOf : ℕ → Row → NewRecord
+newestOf file r =
+    record { entry = file; start = r .start; size = r .size; «record» = r .«record»; place = oldestPlace r }
+
+-- what DC writes
+unfoldable pub updateChange : Command → Standing → Row → Change
+updateChange c s r =
+    pick (isCyclic r)
+    (DataRecord (newestOf (s .file) r))
+    (Content (r .start) (r .size) (recordOffset r (namedBy c (s .number) r)))
+
+-- a plan behind the check of a file command's sum
+unfoldable pub summed : ℕ → File → List ℕ → Standing → Plan → Plan
+summed i f «data» s plan = pick (sumFits i f «data») plan (failed s (checkWord sumTooLong))
+
+-- a sum has no more bytes than can wait
+unfoldable pub Brief : Change → Type 0
+Brief Nothing = Unit
+Brief (Content start size offset) = Unit
+Brief (DataRecord r) = Unit
+Brief (SumRecord r) = r .«record» ≤ 255
+Brief (TableByte place new) = Unit

@@ -1,0 +1,98 @@
+-- "or with an error word, changing nothing": a plan that ends with an error word writes nothing and leaves the session. Assumes nothing.
+use mathlib.Core.Path.{_≡_, refl, sym, ap, _∙_}
+use mathlib.Core.Bool.{Bool, true, false, false≢true}
+use mathlib.Core.List.{List, [], _∷_}
+use Prim.Native.Nat.{ℕ}
+use Rattle.octets.proofs.Picks.{on-pick}
+use Rattle.card.specs.declared.Row.{Row}
+use Rattle.card.specs.declared.tree.Found.{Found}
+use Rattle.card.specs.declared.tree.Found.the-variants.{At, Nothing}
+use Rattle.card.specs.Row.{Card}
+use Rattle.journal.specs.Changes.{Write, perform}
+use Rattle.session.specs.declared.Standing.{Standing}
+use Rattle.command.specs.declared.Format.{Format}
+use Rattle.command.specs.declared.Format.the-variants.{Compact, Expanded}
+use Rattle.command.specs.declared.Command.{Command}
+use Rattle.command.specs.declared.Outcome.{Outcome}
+use Rattle.command.specs.declared.Outcome.the-variants.{Well, FromFiles, FromWaiting, Error}
+use Rattle.plan.specs.Ends.{Plan, failed, done, handed, produced}
+use Rattle.plan.specs.Files.{File}
+use Rattle.plan.specs.Plans.{Situation, selectEntry, select, readBinary, updateBinary, readRecord, updateRecord, searched, search, increase, switch, getResponse, doneBy}
+use Rattle.decide.specs.Decisions.{planned}
+use Rattle.step.specs.Steps.{carriedOut}
+use Rattle.decide.proofs.Instructed.{of-planned, by-instruction}
+
+abbrev isError : Outcome → Bool
+isError (Well word) = false
+isError (FromFiles word place n) = false
+isError (FromWaiting word n) = false
+isError (Error word) = true
+
+module _ (s : Standing) where
+  abbrev Still : Plan → Type 0
+  Still p = (x : ℕ) → p .outcome ≡ Error x → (p .writes ≡ []) × (p .session ≡ s)
+
+  still-failed : (word : ℕ) → Still (failed s word)
+  unfolding failed
+  still-failed word x e = (refl, refl)
+
+  -- what ends well
+  still-well : (p : Plan) → isError (p .outcome) ≡ false → Still p
+  still-well p well x e = absurd (false≢true (sym well ∙ ap isError e))
+
+  still-done : (s′ : Standing) (word : ℕ) (ws : List Write) → Still (done s′ word ws)
+  unfolding done
+  still-done s′ word ws = still-well (done s′ word ws) refl
+
+  still-handed : (s′ : Standing) (word place n : ℕ) → Still (handed s′ word place n)
+  unfolding handed
+  still-handed s′ word place n = still-well (handed s′ word place n) refl
+
+  still-produced : (format : Format) (s′ : Standing) (word : ℕ) (d : List ℕ) (ws : List Write) → Still (produced format s′ word d ws)
+  unfolding produced
+  still-produced Compact s′ word d ws = still-well (produced Compact s′ word d ws) refl
+  still-produced Expanded s′ word d ws = still-well (produced Expanded s′ word d ws) refl
+
+  still-select : (format : Format) (p2 : ℕ) (r : Row) (found : Found) → Still (select format s p2 r found)
+  unfolding select selectEntry
+  still-select format p2 r (At e) = on-pick Still _ _ _ (λ y. still-done _ _ _) (λ y. still-produced format _ _ _ _)
+  still-select format p2 r Nothing = still-failed 0x6A82
+
+  still-read : (format : Format) (c : Command) (f : File) → Still (readBinary format c s f)
+  unfolding readBinary
+  still-read format c f = on-pick Still _ _ _ (λ y. still-handed _ _ _ _) (λ y. on-pick Still _ _ _ (λ y. still-handed _ _ _ _) (λ y. still-handed _ _ _ _))
+
+  still-searched : (format : Format) (ns : List ℕ) → Still (searched format s ns)
+  unfolding searched
+  still-searched format [] = still-done s _ _
+  still-searched format (n ∷ ns) = still-produced format _ _ _ _
+
+  still-response : (c : Command) → Still (getResponse c s)
+  unfolding getResponse
+  still-response c = still-well (getResponse c s) refl
+
+module _ (w : Situation) where
+  abbrev s : Standing
+  s = w .session
+
+  still-by : (i : ℕ) → Still s (doneBy i w)
+  unfolding updateBinary readRecord updateRecord search increase switch
+  still-by i =
+      by-instruction (Still s) w i
+      (λ _. still-select s (w .format) (w .command .p2) (w .row) (w .found))
+      (λ _. still-read s (w .format) (w .command) (w .file))
+      (λ _. still-done s _ _ _)
+      (λ _. still-handed s _ _ _ _)
+      (λ _. on-pick (Still s) _ _ _ (λ _. still-done s _ _ _) (λ _. still-done s _ _ _))
+      (λ _. still-searched s (w .format) _)
+      (λ _. still-produced s (w .format) _ _ _ _)
+      (λ _. still-done s _ _ _)
+      (λ _. still-done s _ _ _)
+      (λ _. still-response s (w .command))
+
+  -- the card and the session stay what they were
+  pub error-still : (waiting : List ℕ) (card : Card) (x : ℕ) → planned w .outcome ≡ Error x → (carriedOut (planned w) waiting card .card ≡ card) × (carriedOut (planned w) waiting card .session ≡ s)
+  unfolding carriedOut perform
+  error-still waiting card x e =
+      let k = of-planned (Still s) w (still-failed s) (λ _. still-by (w .command .instruction)) x e in
+      (ap (λ (ws : List Write). perform ws card) (k .0), k .1)

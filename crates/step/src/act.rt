@@ -1,0 +1,107 @@
+// Doing what was decided: the one function that stores into a card while a script runs.
+use command::Step;
+use journal::read::used_bytes;
+use journal::write::write_file;
+use journal::write::write_table;
+use plan::Change;
+use plan::Decision;
+use plan::NewRecord;
+ghost use mathlib.Core.Path.{_≡_};
+ghost use Prim.Native.Nat.{_+_, _<_};
+ghost use lib.ListN.{length};
+ghost use Rattle.card.specs.Row.{lent};
+ghost use Rattle.journal.specs.Entries.{HasRoom};
+ghost use Rattle.journal.specs.Changes as changes;
+ghost use Rattle.step.specs.Steps.{carriedOut, movedTo};
+ghost use Rattle.plan.specs.Promised.{recordWrites, writesOf, planOf, RecordFits, Fits};
+
+// A new record of a cyclic file: its bytes at the oldest place, then the newest place.
+fn write_record(table: &mut [u8], files: &mut [u8], journal: &mut [u8], r: NewRecord, new: &[u8])
+    requires { ⌜ RecordFits (length (now table)) (length (now files)) r × (length (now new) ≡ r .«record») × (length (now journal) < 65536) × HasRoom (now journal) (8 + r .«record» + 9) ⌝ }
+    ensures { λ _. ⌜ lent (now (table .exit)) (now (files .exit)) (now (journal .exit)) ≡ changes.perform (recordWrites r (now (new .entry))) (lent (now (table .entry)) (now (files .entry)) (now (journal .entry))) ⌝ }
+{
+    let used = used_bytes(journal);
+    let scripts = journal[2];
+    let place = r.place;
+    write_file(
+        files,
+        journal,
+        used,
+        scripts,
+        r.start,
+        r.size,
+        r.record * place,
+        new,
+    );
+    write_table(
+        table,
+        journal,
+        used + (8 + new.len()),
+        scripts,
+        card::ENTRY_SIZE * r.entry + card::NEWEST_BYTE,
+        place as u8,
+    );
+}
+
+// A change is done, with the command's data and what it made.
+pub fn perform(
+    change: Change,
+    data: &[u8],
+    made: &[u8],
+    table: &mut [u8],
+    files: &mut [u8],
+    journal: &mut [u8],
+)
+    requires { ⌜ Fits (length (now table)) (length (now files)) (length (now «data»)) change × (length (now made) ≡ 255) × (length (now journal) < 65536) × HasRoom (now journal) (changes.cost (writesOf change (now «data») (now made))) ⌝ }
+    ensures { λ _. ⌜ lent (now (table .exit)) (now (files .exit)) (now (journal .exit)) ≡ changes.perform (writesOf change (now («data» .entry)) (now (made .entry))) (lent (now (table .entry)) (now (files .entry)) (now (journal .entry))) ⌝ }
+{
+    match change {
+        Change::Nothing => {}
+        Change::Content(start, size, offset) => {
+            let used = used_bytes(journal);
+            let scripts = journal[2];
+            write_file(files, journal, used, scripts, start, size, offset, data);
+        }
+        Change::DataRecord(r) => {
+            write_record(table, files, journal, r, data);
+        }
+        Change::SumRecord(r) => {
+            let n = r.record;
+            write_record(table, files, journal, r, &made[..n]);
+        }
+        Change::TableByte(place, new) => {
+            let used = used_bytes(journal);
+            let scripts = journal[2];
+            write_table(table, journal, used, scripts, place, new as u8);
+        }
+    }
+}
+
+// A decision is done, with what the command made: the script's step after it, with one command more.
+pub fn carry_out(
+    d: Decision,
+    data: &[u8],
+    made: &[u8],
+    count: usize,
+    waiting: &mut [u8],
+    table: &mut [u8],
+    files: &mut [u8],
+    journal: &mut [u8],
+) -> Step
+    requires { ⌜ Fits (length (now table)) (length (now files)) (length (now «data»)) (d .change) × (length (now made) ≡ 255) × (length (now waiting) ≡ 255) × (length (now journal) < 65536) × HasRoom (now journal) (changes.cost (planOf d (now «data») (now made) .writes)) × (count < 65535) ⌝ }
+    ensures { λ r. ⌜ (movedTo (r .session) (r .outcome) (now (waiting .exit)) (lent (now (table .exit)) (now (files .exit)) (now (journal .exit)))
+        ≡ carriedOut (planOf d (now («data» .entry)) (now (made .entry))) (now (waiting .entry)) (lent (now (table .entry)) (now (files .entry)) (now (journal .entry))))
+        × (r .count ≡ count + 1) ⌝ }
+{
+    let change = d.change;
+    let session = d.session;
+    let outcome = d.outcome;
+    let n = d.made as usize;
+    perform(change, data, made, table, files, journal);
+    octets::copy(waiting, 0, &made[..n]);
+    Step {
+        session,
+        outcome,
+        count: count + 1,
+    }
+}
