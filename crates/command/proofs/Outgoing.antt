@@ -17,14 +17,14 @@ unfolding dataOf OutcomeFits
 data-length (Well word) files waiting fits all = refl
 data-length (FromFiles word place n) files waiting fits all = part-length files place n (fits .0)
 data-length (FromWaiting word n) files waiting fits all = length-take-le n waiting (omega (arith, fits))
-data-length (Error word) files waiting fits all = refl
+data-length (Error k) files waiting fits all = refl
 
 pub data-few : (o : Outcome) (files : ℕ) → OutcomeFits files o → dataCount o ≤ 256
 unfolding OutcomeFits
 data-few (Well word) files fits = omega arith
 data-few (FromFiles word place n) files fits = fits .1
 data-few (FromWaiting word n) files fits = omega (arith, fits)
-data-few (Error word) files fits = omega arith
+data-few (Error k) files fits = omega arith
 
 module _ {o other : Outcome} (same : o ≡ other) where
   pub known-fits : (files : ℕ) → OutcomeFits files o → OutcomeFits files other

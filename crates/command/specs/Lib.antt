@@ -1,4 +1,4 @@
 pub mod Instructions
-pub mod Outcomes
 pub mod Checks
+pub mod Outcomes
 pub mod Promised

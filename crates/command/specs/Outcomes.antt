@@ -7,6 +7,7 @@ use lib.Dec.{leb, eqb}
 use Rattle.octets.specs.Bytes.{part}
 use Rattle.command.specs.declared.Outcome.{Outcome}
 use Rattle.command.specs.declared.Outcome.the-variants.{Well, FromFiles, FromWaiting, Error}
+use Rattle.command.specs.Checks.{checkWord}
 
 -- the paper's words that end a command well
 abbrev pub normal : ℕ
@@ -26,21 +27,21 @@ abbrev pub wordOf : Outcome → ℕ
 wordOf (Well word) = word
 wordOf (FromFiles word place n) = word
 wordOf (FromWaiting word n) = word
-wordOf (Error word) = word
+wordOf (Error k) = checkWord k
 
 -- the data of an outcome: "The data handed out come from the file memory or from the waiting bytes."
 unfoldable pub dataOf : Outcome → List ℕ → List ℕ → List ℕ
 dataOf (Well word) files waiting = []
 dataOf (FromFiles word place n) files waiting = part files place n
 dataOf (FromWaiting word n) files waiting = take n waiting
-dataOf (Error word) files waiting = []
+dataOf (Error k) files waiting = []
 
 -- how many data bytes an outcome has
 abbrev pub dataCount : Outcome → ℕ
 dataCount (Well word) = 0
 dataCount (FromFiles word place n) = n
 dataCount (FromWaiting word n) = n
-dataCount (Error word) = 0
+dataCount (Error k) = 0
 
 -- "9000, 6282, 6283 and 61xx go on; every other word stops the script."
 abbrev pub goesOn : ℕ → Bool

@@ -16,4 +16,4 @@ unfoldable pub OutcomeFits : ℕ → Outcome → Type 0
 OutcomeFits files (Well word) = Unit
 OutcomeFits files (FromFiles word place n) = (place + n ≤ files) × (n ≤ 256)
 OutcomeFits files (FromWaiting word n) = n ≤ 255
-OutcomeFits files (Error word) = Unit
+OutcomeFits files (Error k) = Unit

@@ -1,11 +1,23 @@
 // What an outcome stands for: the paper's word, whether the script goes on, and the data.
 use crate::Outcome;
+use crate::checks::check_word;
 ghost use mathlib.Core.Path.{_≡_};
 ghost use Prim.Native.Nat.{_+_, _≤_};
 ghost use lib.ListN.{length, take};
 ghost use Rattle.octets.specs.Bytes.{part, overwrite};
 ghost use Rattle.command.specs.Outcomes as spec;
 ghost use Rattle.command.specs.Promised.{OutcomeFits};
+
+// "9000, 6282, 6283 and 61xx go on"
+pub const NORMAL: usize = 0x9000;
+
+pub const END_OF_DATA: usize = 0x6282;
+
+pub const SELECTED_DEACTIVATED: usize = 0x6283;
+
+pub const BYTES_WAIT: usize = 0x6100;
+
+const MOST_BYTES_WAIT: usize = 0x61FF;
 
 // The word of an outcome.
 pub fn word_of(o: Outcome) -> usize
@@ -15,7 +27,7 @@ pub fn word_of(o: Outcome) -> usize
         Outcome::Well(word) => word,
         Outcome::FromFiles(word, _, _) => word,
         Outcome::FromWaiting(word, _) => word,
-        Outcome::Error(word) => word,
+        Outcome::Error(k) => check_word(k),
     }
 }
 
@@ -35,8 +47,9 @@ pub fn data_count(o: Outcome) -> usize
 pub fn goes_on(word: usize) -> bool
     ensures { λ b. ⌜ b ≡ spec.goesOn word ⌝ }
 {
-    (word == 0x9000)
-        | ((word == 0x6282) | ((word == 0x6283) | ((0x6100 <= word) & (word <= 0x61FF))))
+    (word == NORMAL)
+        | ((word == END_OF_DATA)
+            | ((word == SELECTED_DEACTIVATED) | ((BYTES_WAIT <= word) & (word <= MOST_BYTES_WAIT))))
 }
 
 // Data that are a part of the file memory.

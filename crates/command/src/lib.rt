@@ -1,8 +1,10 @@
 // One command, in its parsed form.
+pub mod checks;
 pub mod ends;
 pub mod instruction;
 pub mod reader;
 
+use checks::Check;
 use session::Standing;
 
 // The format of a script and of its answer.
@@ -32,12 +34,12 @@ pub struct Reading {
 }
 
 // How a command ends: well with a word and no data; well with a word and a part of the file memory (its place and length); well
-// with a word and the first waiting bytes (how many); or with an error word.
+// with a word and the first waiting bytes (how many); or with the check that failed, whose word it is.
 pub enum Outcome {
     Well(usize),
     FromFiles(usize, usize, usize),
     FromWaiting(usize, usize),
-    Error(usize),
+    Error(Check),
 }
 
 // A script after some commands: the session, how the last command ended, and how many there were.

@@ -1,7 +1,6 @@
 -- What holds of each way in which a command ends holds of its plan: by the first check that fails, and by its instruction. Assumes nothing.
 use mathlib.Core.Path.{_≡_, refl}
 use mathlib.Core.Bool.{true, or-false}
-use mathlib.Core.Option.{Option, none, some}
 use Prim.Native.Nat.{ℕ}
 use lib.Dec.{eqb}
 use borrow.Author.Tests.{eqb-true}
@@ -11,20 +10,22 @@ use Rattle.command.specs.Instructions.{isKnown}
 use Rattle.plan.specs.Ends.{Plan, failed}
 use Rattle.plan.specs.Plans.{Situation, select, readBinary, updateBinary, readRecord, updateRecord, search, increase, switch, getResponse, doneBy}
 use Rattle.card.specs.Row.{activated, deactivated}
-use Rattle.command.specs.Checks.{Check}
+use Rattle.command.specs.declared.checks.Check.{Check}
+use Rattle.command.specs.declared.checks.Checked.{Checked}
+use Rattle.command.specs.declared.checks.Checked.the-variants.{Passed, Failed}
 use Rattle.decide.specs.Order.{order}
 use Rattle.decide.specs.Fails.{firstFailing}
 use Rattle.decide.specs.Decisions.{decided, planned}
 
 module _ (P : Plan → Type 0) (w : Situation) where
   -- a check fails, or none
-  pub of-planned : ((word : ℕ) → P (failed (w .session) word)) → (firstFailing w (order (w .command .instruction)) ≡ none → P (doneBy (w .command .instruction) w)) → P (planned w)
+  pub of-planned : ((k : Check) → P (failed (w .session) k)) → (firstFailing w (order (w .command .instruction)) ≡ Passed → P (doneBy (w .command .instruction) w)) → P (planned w)
   unfolding planned
-  of-planned fails does = go (firstFailing w (order (w .command .instruction))) refl
+  of-planned failing does = go (firstFailing w (order (w .command .instruction))) refl
     where
-      go : (k : Option Check) → firstFailing w (order (w .command .instruction)) ≡ k → P (decided w k)
-      go none h = unfold decided in does h
-      go (some k) h = unfold decided in fails _
+      go : (k : Checked) → firstFailing w (order (w .command .instruction)) ≡ k → P (decided w k)
+      go Passed h = unfold decided in does h
+      go (Failed k) h = unfold decided in failing k
 
   -- what an instruction does; of those that there are, the last is GET RESPONSE
   pub by-instruction : (i : ℕ)

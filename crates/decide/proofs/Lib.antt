@@ -1,4 +1,5 @@
 pub mod Order
+pub mod Finds
 pub mod Costs
 pub mod Instructed
 pub mod Passing

@@ -2,7 +2,6 @@
 use mathlib.Core.Path.{_≡_, refl, sym, ap, _∙_}
 use mathlib.Core.Bool.{Bool, true, false, _||_}
 use mathlib.Core.List.{List, [], _∷_}
-use mathlib.Core.Option.{some}
 use mathlib.Core.Logic.{⊎-elim}
 use Prim.Native.Nat.{ℕ}
 use lib.Dec.{eqb}
@@ -14,20 +13,21 @@ use Rattle.card.specs.Row.{hasRecords}
 use Rattle.command.specs.Instructions as ins
 use Rattle.command.specs.Instructions.{isRecord}
 use Rattle.plan.specs.Plans.{Situation}
-use Rattle.command.specs.Checks.{Check, checkWord}
+use Rattle.command.specs.declared.checks.Check.{Check}
+use Rattle.command.specs.declared.checks.Checked.the-variants.{Passed, Failed}
 use Rattle.decide.specs.Order.{selectChecks, responseChecks, fileChecks, laterChecks}
-use Rattle.decide.specs.Fails.{holds, firstFailing, kindFits}
-use Rattle.decide.specs.Promised.{failWord, FirstWord}
+use Rattle.decide.specs.Fails.{fails, firstFailing, kindFits}
+use Rattle.decide.specs.Promised.{FirstOf}
 
--- a check that holds is passed, and one that fails is the first
+-- a check that does not fail is passed, and one that fails is the first
 module _ (w : Situation) (k : Check) (ks : List Check) where
-  pub past : holds w k ≡ true → firstFailing w (k ∷ ks) ≡ firstFailing w ks
+  pub past : fails w k ≡ false → firstFailing w (k ∷ ks) ≡ firstFailing w ks
   unfolding firstFailing
-  past h = pick-true (holds w k) (firstFailing w ks) (some k) h
+  past h = pick-false (fails w k) (Failed k) (firstFailing w ks) h
 
-  pub first : holds w k ≡ false → firstFailing w (k ∷ ks) ≡ some k
+  pub first : fails w k ≡ true → firstFailing w (k ∷ ks) ≡ Failed k
   unfolding firstFailing
-  first h = pick-false (holds w k) (firstFailing w ks) (some k) h
+  first h = pick-true (fails w k) (Failed k) (firstFailing w ks) h
 
 -- in every situation of which so much is known, the first of all checks that fails is the first of those left
 pub record Left (Known : Situation → Type 0) (all ks : List Check) : Type 0 where
@@ -36,18 +36,17 @@ pub record Left (Known : Situation → Type 0) (all ks : List Check) : Type 0 wh
 pub all-left : (Known : Situation → Type 0) (all : List Check) → Left Known all all
 all-left Known all = record { same = λ w so. refl }
 
--- what the next check finds passes it, or gives its word
-module _ {Known : Situation → Type 0} {all ks : List Check} {k : Check} {found : Bool} (left : Left Known all (k ∷ ks)) (finds : (w : Situation) → Known w → holds w k ≡ found) where
-  pub passes : found ≡ true → Left Known all ks
+-- what the next check finds passes it, or makes it the first that fails
+module _ {Known : Situation → Type 0} {all ks : List Check} {k : Check} {found : Bool} (left : Left Known all (k ∷ ks)) (finds : (w : Situation) → Known w → fails w k ≡ found) where
+  pub passes : found ≡ false → Left Known all ks
   passes h = record { same = λ w so. left .same w so ∙ past w k ks (finds w so ∙ h) }
 
-  pub fails : found ≡ false → FirstWord all Known (checkWord k)
-  unfolding failWord
-  fails h w so = sym (ap failWord (left .same w so ∙ first w k ks (finds w so ∙ h)))
+  pub is-first : found ≡ true → FirstOf all Known (Failed k)
+  is-first h w so = sym (left .same w so ∙ first w k ks (finds w so ∙ h))
 
-pub all-hold : {Known : Situation → Type 0} {all : List Check} → Left Known all [] → FirstWord all Known 0
-unfolding firstFailing failWord
-all-hold left w so = sym (ap failWord (left .same w so))
+pub none-left : {Known : Situation → Type 0} {all : List Check} → Left Known all [] → FirstOf all Known Passed
+unfolding firstFailing
+none-left left w so = sym (left .same w so)
 
 -- the checks behind the formal ones
 pub later-select : (i : ℕ) → i ≡ ins.select → laterChecks i ≡ selectChecks

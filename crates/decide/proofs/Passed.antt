@@ -1,7 +1,7 @@
 -- What is known of a file command behind its checks, what a sound table and a good session give it, and what it comes to without and
 -- with the journal's room. Assumes nothing.
 use mathlib.Core.Path.{_≡_, refl, sym, _∙_}
-use mathlib.Core.Bool.{true, false, _&&_}
+use mathlib.Core.Bool.{true, false}
 use mathlib.Core.List.{List, [], _++_}
 use mathlib.Core.Logic.{⊎-elim}
 use Prim.Native.Nat.{ℕ, _+_, _*_, _≤_, _<_}
@@ -9,7 +9,7 @@ use native.Mathlib.Nat.{eq-zero-or-pos}
 use native.Mathlib.Omega.{arith}
 use lib.ListN.{length}
 use lib.Dec.{eqb}
-use borrow.Author.Tests.{leb-true}
+use borrow.Author.Tests.{eqb-false, not-false}
 use Rattle.octets.specs.Choice.{pick}
 use Rattle.octets.proofs.Picks.{on-pick}
 use Rattle.card.specs.declared.Row.{Row}
@@ -22,30 +22,33 @@ use Rattle.session.specs.declared.Standing.{Standing}
 use Rattle.command.specs.declared.Format.{Format}
 use Rattle.command.specs.declared.Format.the-variants.{Compact}
 use Rattle.command.specs.declared.Command.{Command}
+use Rattle.command.specs.declared.checks.Check.{Check}
+use Rattle.command.specs.declared.checks.Checked.{Checked}
+use Rattle.command.specs.declared.checks.Checked.the-variants.{Passed, Failed}
 use Rattle.command.specs.Instructions as ins
 use Rattle.command.specs.Instructions.{isRecord}
 use Rattle.plan.specs.Files.{File, fileAt}
 use Rattle.plan.specs.Promised.{Recorded, planOf, Fits, newestOf, updateChange, summed}
 use Rattle.plan.specs.Plans.{Situation, offsetOf, namedBy, switch, doneBy}
-use Rattle.decide.specs.Fails.{holds, kindFits, offsetFits, recordFits, lengthFits}
+use Rattle.decide.specs.Fails.{fails, kindFits, renews, offsetOutside, noRecord, lengthFits}
 use Rattle.decide.specs.Order.{formalChecks, boundChecks}
-use Rattle.decide.specs.Promised.{FirstWord, Checkable, Bound, Whole, Formal, roomed, Able, Ready, Unroomed, Decided}
+use Rattle.decide.specs.Promised.{FirstOf, Checkable, Bound, Whole, Formal, roomed, Able, Ready, Unroomed, Decided}
 use Rattle.decide.specs.Decisions.{situation, planned}
 use Rattle.decide.proofs.Order.{record-kind}
 use Rattle.card.proofs.Places.{offset-inside}
-use Rattle.decide.proofs.Passing.{AllHold, kind-increased, offset-read, length-binary, length-record, length-increased, named-there}
+use Rattle.decide.proofs.Passing.{AllPass, kind-increased, offset-read, length-binary, length-record, length-increased, named-there}
 use Rattle.plan.specs.declared.Change.the-variants.{TableByte}
 use Rattle.plan.specs.declared.Decision.{Decision}
 use Rattle.plan.proofs.Inside.{none-fits, newest-fits}
-use Rattle.decide.proofs.Plans.{check-fails, bounds-hold, roomless-done, room-behind, Fails, roomed-inside, plain-sum}
+use Rattle.decide.proofs.Plans.{check-fails, bounds-pass, roomless-done, room-behind, Fails, roomed-inside, plain-sum}
 
--- what is known of a file command and its file's row once the checks up to the lengths hold
+-- what is known of a file command and its file's row once the checks up to the lengths are passed
 pub record Known (files : ℕ) (c : Command) (lc : ℕ) (s : Standing) (r : Row) : Type 0 where
   pub inside : r .start + r .size ≤ files
   pub recorded : hasRecords r ≡ true → Recorded files r
   pub kind : kindFits (c .instruction) r ≡ true
-  pub offset : offsetFits (c .instruction) (offsetOf c) r ≡ true
-  pub «record» : recordFits c (s .number) r ≡ true
+  pub offset : offsetOutside (c .instruction) (offsetOf c) r ≡ false
+  pub «record» : noRecord c (s .number) r ≡ false
   pub length : lengthFits (c .instruction) (offsetOf c) (c .p3) lc r ≡ true
 
 -- what that gives to the instructions
@@ -59,7 +62,7 @@ module _ {files lc : ℕ} {c : Command} {s : Standing} {r : Row} (p : Known file
   pub of-records : isRecord (c .instruction) ≡ true → Recorded files r
   of-records h = p .recorded (record-kind (c .instruction) r h (p .kind))
 
-  pub has-named : isRecord (c .instruction) ≡ true → (eqb (c .instruction) ins.updateRecord && isCyclic r) ≡ false → (1 ≤ namedBy c (s .number) r) × (namedBy c (s .number) r ≤ recordCount r)
+  pub has-named : isRecord (c .instruction) ≡ true → renews (c .instruction) r ≡ false → (1 ≤ namedBy c (s .number) r) × (namedBy c (s .number) r ≤ recordCount r)
   has-named h g = named-there c (s .number) r h g (p .«record»)
 
   pub to-sum : c .instruction ≡ ins.increase → Recorded files r × (r .«record» ≤ 127) × (lc ≤ r .«record»)
@@ -115,12 +118,12 @@ module _ {t files : List ℕ} {s : Standing} {c : Command} {lc : ℕ} (can : Abl
     pub to-check : {i : ℕ} → c .instruction ≡ i → Checkable i c lc r
     to-check e = (e, records-long, can .bytes)
 
-    passed : Narrow r → (w : Situation) → Bound c lc (s .file) (s .number) r w → AllHold w boundChecks → Known (length files) c lc s r
-    unfolding boundChecks holds
+    passed : Narrow r → (w : Situation) → Bound c lc s r w → AllPass w boundChecks → Known (length files) c lc s r
+    unfolding boundChecks fails
     passed narrow w so h =
         let of = so .0 in
         let on = so .1 in
-        let some : 1 ≤ s .file = rw (on .file) at (leb-true 1 (w .session .file) (h .0)) in
+        let some : 1 ≤ s .file = let z = eqb-false (s .file) 0 (rw (on .session) at (h .0)) in omega arith in
         let inside = file-inside (length files) r own (rw same (can .good .file some .isFile)) in
         record {
           inside = inside;
@@ -133,10 +136,10 @@ module _ {t files : List ℕ} {s : Standing} {c : Command} {lc : ℕ} (can : Abl
                 most = omega arith;
                 inside = inside;
               };
-          kind = rw (of .command, on .row) at (h .1 .0);
+          kind = not-false _ (rw (of .command, on .row) at (h .1 .0));
           offset = rw (of .command, on .row) at (h .1 .1 .1 .1 .1 .0);
-          «record» = rw (of .command, on .number, on .row) at (h .1 .1 .1 .1 .1 .1 .0);
-          length = rw (of .command, of .count, on .row) at (h .1 .1 .1 .1 .1 .1 .1 .0);
+          «record» = rw (of .command, on .session, on .row) at (h .1 .1 .1 .1 .1 .1 .0);
+          length = not-false _ (rw (of .command, of .count, on .row) at (h .1 .1 .1 .1 .1 .1 .1 .0));
         }
 
 -- an instruction that sets the current file's state
@@ -153,44 +156,44 @@ pub activates : Switches ins.activate activated
 unfolding doneBy pick
 activates = record { done = λ w. refl; plain = refl; byte = omega arith }
 
--- what `row_at` says of the file's row, and `checked` of the word of the checks up to the lengths, with so many data bytes
+-- what `target_row` says of the file's row, and `checked` of the checks up to the lengths, with lc data bytes
 abbrev pub Read : List ℕ → Standing → Row → Type 0
 Read t s r = (r ≡ rowOf t (s .file)) × Narrow r
 
-abbrev pub Told : ℕ → Command → ℕ → Standing → Row → ℕ → Type 0
-Told domain c lc s r word = FirstWord (formalChecks ++ boundChecks) (Whole c lc domain (s .file) (s .number) r) word
+abbrev pub Told : ℕ → Command → ℕ → Standing → Row → Checked → Type 0
+Told domain c lc s r came = FirstOf (formalChecks ++ boundChecks) (Whole c lc domain s r) came
 
 -- a command's own situation is one of these
 pub own-formal : (format : Format) (domain : ℕ) (c : Command) («data» : List ℕ) (s : Standing) (card : Card) → Formal c (length «data») domain (situation format domain c «data» s card)
 unfolding situation
 own-formal format domain c «data» s card = (record { command = refl; count = refl }, refl)
 
-own-situation : (format : Format) (domain : ℕ) (c : Command) («data» : List ℕ) (s : Standing) (t files journal : List ℕ) {r : Row} → Read t s r → Whole c (length «data») domain (s .file) (s .number) r (situation format domain c «data» s (lent t files journal))
+own-situation : (format : Format) (domain : ℕ) (c : Command) («data» : List ℕ) (s : Standing) (t files journal : List ℕ) {r : Row} → Read t s r → Whole c (length «data») domain s r (situation format domain c «data» s (lent t files journal))
 unfolding situation fileAt
 own-situation format domain c «data» s t files journal row =
-    (own-formal format domain c «data» s (lent t files journal), record { file = refl; number = refl; row = sym (row .0) })
+    (own-formal format domain c «data» s (lent t files journal), record { session = refl; row = sym (row .0) })
 
--- what is known where the word is 0
-pub check-passed : {domain : ℕ} {c : Command} («data» : List ℕ) {s : Standing} {t files : List ℕ} {r : Row} {word : ℕ} → Read t s r → Told domain c (length «data») s r word → word ≡ 0 → Able t files s c (length «data») → Known (length files) c (length «data») s r
-check-passed {domain} {c} «data» {s} {t} {files} row told zero can =
+-- what is known where all are passed
+pub check-passed : {domain : ℕ} {c : Command} («data» : List ℕ) {s : Standing} {t files : List ℕ} {r : Row} {came : Checked} → Read t s r → Told domain c (length «data») s r came → came ≡ Passed → Able t files s c (length «data») → Known (length files) c (length «data») s r
+check-passed {domain} {c} «data» {s} {t} {files} row told all can =
     let w = situation Compact domain c «data» s (lent t files []) in
     let so = own-situation Compact domain c «data» s t files [] row in
-    passed can (row .0) (row .1) w (so .0 .0, so .1) (bounds-hold w (sym zero ∙ told w so))
+    passed can (row .0) (row .1) w (so .0 .0, so .1) (bounds-pass w (sym all ∙ told w so))
 
-module _ {domain : ℕ} {c : Command} {«data» : List ℕ} {s : Standing} {t files : List ℕ} {r : Row} {word : ℕ} (row : Read t s r) (told : Told domain c (length «data») s r word) where
+module _ {domain : ℕ} {c : Command} {«data» : List ℕ} {s : Standing} {t files : List ℕ} {r : Row} {came : Checked} (row : Read t s r) (told : Told domain c (length «data») s r came) where
   -- what comes of a check that fails
-  pub check-failed : (word ≡ 0 → ⊥) → {d : Decision} → Fails s word d → (format : Format) (bytes : List ℕ) → Unroomed format domain c «data» s t files bytes d
+  pub check-failed : {k : Check} → came ≡ Failed k → {d : Decision} → Fails s k d → (format : Format) (bytes : List ℕ) → Unroomed format domain c «data» s t files bytes d
   unfolding situation fileAt
-  check-failed z f format bytes =
+  check-failed {k} z f format bytes =
       record {
         same = λ journal.
             let w = situation format domain c «data» s (lent t files journal) in
-            f .0 «data» bytes ∙ check-fails w (told w (own-situation format domain c «data» s t files journal row)) z;
+            f .0 «data» bytes ∙ check-fails w k (sym z ∙ told w (own-situation format domain c «data» s t files journal row));
         fits = none-fits _ _ _ (f .1);
       }
 
   -- and of none: the plan of the instruction, with INCREASE's check of the sum, plainly of another, and of those that set the state
-  module _ (zero : word ≡ 0) {i : ℕ} (e : c .instruction ≡ i) where
+  module _ (all : came ≡ Passed) {i : ℕ} (e : c .instruction ≡ i) where
     pub check-done : {format : Format} {bytes : List ℕ} {d : Decision} → ((journal : List ℕ) → planOf d «data» bytes ≡ summed i (fileAt (lent t files journal) (s .file)) «data» s (doneBy i (situation format domain c «data» s (lent t files journal)))) → Fits (length t) (length files) (length «data») (d .change) → Unroomed format domain c «data» s t files bytes d
     unfolding situation fileAt
     check-done {format} so h =
@@ -199,7 +202,7 @@ module _ {domain : ℕ} {c : Command} {«data» : List ℕ} {s : Standing} {t fi
               let w = situation format domain c «data» s (lent t files journal) in
               so journal
               ∙ (λ k. summed (sym e k) (w .file) «data» s (doneBy (sym e k) w))
-              ∙ roomless-done w (sym zero ∙ told w (own-situation format domain c «data» s t files journal row));
+              ∙ roomless-done w (sym all ∙ told w (own-situation format domain c «data» s t files journal row));
           fits = h;
         }
 

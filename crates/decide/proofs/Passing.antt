@@ -1,15 +1,14 @@
--- Where no check of an order fails, every one of them holds; and what each then promises to the instructions that need it. Assumes nothing.
-use mathlib.Core.Path.{_≡_, refl}
-use mathlib.Core.Bool.{Bool, true, false, not, _&&_, _||_}
+-- Where no check of an order fails, every one of them is passed; and what each then promises to the instructions that need it. Assumes nothing.
+use mathlib.Core.Path.{_≡_, refl, sym}
+use mathlib.Core.Bool.{Bool, true, false, not, _&&_, _||_, false≢true}
 use mathlib.Core.List.{List, [], _∷_, _++_}
-use mathlib.Core.Option.{Option, none, some}
 use Prim.Native.Nat.{ℕ, _+_, _≤_, _<_}
 use native.Mathlib.Omega.{arith}
 use lib.Dec.{leb, eqb}
 use lib.ListN.{length}
-use borrow.Author.Tests.{leb-true, ltb-true, eqb-true, eqb-false, not-true}
+use borrow.Author.Tests.{leb-true, leb-false, eqb-true, eqb-false, not-false}
 use Rattle.octets.specs.Choice.{pick}
-use Rattle.octets.proofs.Picks.{and-left, and-right}
+use Rattle.octets.proofs.Picks.{and-left, and-right, or-none}
 use Rattle.card.specs.declared.Row.{Row}
 use Rattle.card.specs.Row.{isCyclic}
 use Rattle.card.specs.Sound.{recordCount}
@@ -18,53 +17,65 @@ use Rattle.command.specs.Instructions as ins
 use Rattle.command.specs.Instructions.{carriesData, caseOf, isRecord}
 use Rattle.plan.specs.Files.{hasRecord}
 use Rattle.plan.specs.Plans.{Situation, namedBy}
-use Rattle.command.specs.Checks.{Check, wrongCase, noFile, wrongKind, offsetOutside, noRecord, wrongLength, journalFull}
+use Rattle.command.specs.declared.checks.Check.{Check}
+use Rattle.command.specs.declared.checks.Check.the-variants.{WrongCase, NoFile, WrongKind, OffsetOutside, NoRecord, WrongLength, JournalFull}
+use Rattle.command.specs.declared.checks.Checked.{Checked}
+use Rattle.command.specs.declared.checks.Checked.the-variants.{Passed, Failed}
 use Rattle.decide.specs.Order.{formalChecks, boundChecks, fileChecks, order}
-use Rattle.decide.specs.Fails.{caseFits, kindFits, offsetFits, recordFits, lengthFits, holds, firstFailing}
+use Rattle.decide.specs.Fails.{wrongCase, kindFits, renews, offsetOutside, noRecord, lengthFits, fails, firstFailing}
 use Rattle.decide.proofs.Order.{later-file}
 
-abbrev pub AllHold : Situation → List Check → Type 0
-AllHold w [] = Unit {0}
-AllHold w (k ∷ ks) = (holds w k ≡ true) × AllHold w ks
+abbrev pub AllPass : Situation → List Check → Type 0
+AllPass w [] = Unit {0}
+AllPass w (k ∷ ks) = (fails w k ≡ false) × AllPass w ks
 
-first-holds : (w : Situation) (k : Check) (rest : Option Check) (b : Bool) → pick b rest (some k) ≡ none → (b ≡ true) × (rest ≡ none)
+first-passes : (k : Check) (rest : Checked) (b : Bool) → pick b (Failed k) rest ≡ Passed → (b ≡ false) × (rest ≡ Passed)
 unfolding pick
-first-holds w k rest true h = (refl, h)
-first-holds w k rest false h = absurd (let z : _≡_ {A = ℕ} 0 1 = cc in omega arith)
+first-passes k rest false h = (refl, h)
+first-passes k rest true h = absurd (let z : _≡_ {A = ℕ} 0 1 = cc in omega arith)
 
-pub none-fails : (w : Situation) (ks : List Check) → firstFailing w ks ≡ none → AllHold w ks
+pub all-pass : (w : Situation) (ks : List Check) → firstFailing w ks ≡ Passed → AllPass w ks
 unfolding firstFailing
-none-fails w [] h = tt
-none-fails w (k ∷ ks) h =
-    let f = first-holds w k (firstFailing w ks) (holds w k) h in
-    (f .0, none-fails w ks (f .1))
+all-pass w [] h = tt
+all-pass w (k ∷ ks) h =
+    let f = first-passes k (firstFailing w ks) (fails w k) h in
+    (f .0, all-pass w ks (f .1))
 
 -- of the checks on a file, those that a plan rests on
-pub record Passed (w : Situation) : Type 0 where
-  pub case : holds w wrongCase ≡ true
-  pub file : holds w noFile ≡ true
-  pub kind : holds w wrongKind ≡ true
-  pub offset : holds w offsetOutside ≡ true
-  pub «record» : holds w noRecord ≡ true
-  pub length : holds w wrongLength ≡ true
-  pub journal : holds w journalFull ≡ true
+pub record Passes (w : Situation) : Type 0 where
+  pub case : fails w WrongCase ≡ false
+  pub file : fails w NoFile ≡ false
+  pub kind : fails w WrongKind ≡ false
+  pub offset : fails w OffsetOutside ≡ false
+  pub «record» : fails w NoRecord ≡ false
+  pub length : fails w WrongLength ≡ false
+  pub journal : fails w JournalFull ≡ false
 
-all-passed : (w : Situation) → AllHold w (formalChecks ++ fileChecks) → Passed w
+all-passed : (w : Situation) → AllPass w (formalChecks ++ fileChecks) → Passes w
 unfolding formalChecks fileChecks boundChecks
 all-passed w (_, (_, (_, (_, (case, (_, (_, (file, (kind, (_, (_, (_, (offset, (named, (long, (_, (journal, _))))))))))))))))) =
     record { case = case; file = file; kind = kind; offset = offset; «record» = named; length = long; journal = journal }
 
-pub passed : (w : Situation) (i : ℕ) → eqb i ins.select ≡ false → eqb i ins.getResponse ≡ false → firstFailing w (order i) ≡ none → Passed w
+pub passed : (w : Situation) (i : ℕ) → eqb i ins.select ≡ false → eqb i ins.getResponse ≡ false → firstFailing w (order i) ≡ Passed → Passes w
 unfolding order
-passed w i a b h = all-passed w (none-fails w (formalChecks ++ fileChecks) (rw (later-file i a b) at h))
+passed w i a b h = all-passed w (all-pass w (formalChecks ++ fileChecks) (rw (later-file i a b) at h))
 
--- "wrong case, Lc 0": an instruction that carries data has some
-some-data : (b : Bool) (n : ℕ) → b ≡ true → not (b && eqb n 0) ≡ true → 1 ≤ n
-some-data b n y h = let z = eqb-false n 0 (not-true _ (rw y at h)) in omega arith
+-- neither of two tests
+or-first-none : (a b : Bool) → (a || b) ≡ false → a ≡ false
+or-first-none false b e = refl
+or-first-none true b e = absurd (false≢true (sym e))
 
-pub data-some : (c : Command) (lc : ℕ) → carriesData (c .instruction) ≡ true → caseFits c lc ≡ true → 1 ≤ lc
-unfolding caseFits
-data-some c lc y h = some-data (carriesData (c .instruction)) lc y (and-right (eqb (c .case) (caseOf (c .instruction) (c .p2))) _ h)
+-- "wrong case, Lc 0": a command that has its case, and an instruction that carries data, which has some
+pub case-right : (c : Command) (lc : ℕ) → wrongCase c lc ≡ false → c .case ≡ caseOf (c .instruction) (c .p2)
+unfolding wrongCase
+case-right c lc h = eqb-true _ _ (not-false _ (or-first-none _ _ h))
+
+some-data : (b : Bool) (n : ℕ) → b ≡ true → (b && eqb n 0) ≡ false → 1 ≤ n
+some-data b n y h = let z = eqb-false n 0 (rw y at h) in omega arith
+
+pub data-some : (c : Command) (lc : ℕ) → carriesData (c .instruction) ≡ true → wrongCase c lc ≡ false → 1 ≤ lc
+unfolding wrongCase
+data-some c lc y h = some-data (carriesData (c .instruction)) lc y (or-none (not (eqb (c .case) (caseOf (c .instruction) (c .p2)))) _ h)
 
 -- kinds, offsets and lengths
 module _ (i : ℕ) (r : Row) where
@@ -74,8 +85,8 @@ module _ (i : ℕ) (r : Row) where
       let k = rw e at h in
       (and-left _ _ k, leb-true (r .«record») 127 (and-right (isCyclic r) _ k))
 
-  pub offset-read : (offset : ℕ) → i ≡ ins.readBinary → offsetFits i offset r ≡ true → offset < r .size
-  offset-read offset e h = ltb-true offset (r .size) (rw e at h)
+  pub offset-read : (offset : ℕ) → i ≡ ins.readBinary → offsetOutside i offset r ≡ false → offset < r .size
+  offset-read offset e h = leb-false (r .size) offset (rw e at h)
 
   module _ (offset p3 lc : ℕ) (h : lengthFits i offset p3 lc r ≡ true) where
     pub length-binary : i ≡ ins.updateBinary → offset + lc ≤ r .size
@@ -91,12 +102,12 @@ module _ (i : ℕ) (r : Row) where
     length-increased e = leb-true lc (r .«record») (rw e at h)
 
 -- the record that is named is there; DC on a cyclic file names none
-or-last : (a b c : Bool) → a ≡ true → b ≡ false → (not a || (b || c)) ≡ true → c ≡ true
-or-last a b c y z h = rw (y, z) at h
+both-pass : (a b c : Bool) → a ≡ true → b ≡ false → ((a && not b) && not c) ≡ false → c ≡ true
+both-pass a b c y z h = not-false c (rw (y, z) at h)
 
-pub named-there : (c : Command) (number : ℕ) (r : Row) → isRecord (c .instruction) ≡ true → (eqb (c .instruction) ins.updateRecord && isCyclic r) ≡ false → recordFits c number r ≡ true → (1 ≤ namedBy c number r) × (namedBy c number r ≤ recordCount r)
-unfolding recordFits hasRecord
+pub named-there : (c : Command) (number : ℕ) (r : Row) → isRecord (c .instruction) ≡ true → renews (c .instruction) r ≡ false → noRecord c number r ≡ false → (1 ≤ namedBy c number r) × (namedBy c number r ≤ recordCount r)
+unfolding noRecord hasRecord
 named-there c number r y z h =
     let n = namedBy c number r in
-    let t = or-last (isRecord (c .instruction)) (eqb (c .instruction) ins.updateRecord && isCyclic r) (hasRecord r n) y z h in
+    let t = both-pass (isRecord (c .instruction)) (renews (c .instruction) r) (hasRecord r n) y z h in
     (leb-true 1 n (and-left _ _ t), leb-true n (recordCount r) (and-right (leb 1 n) _ t))

@@ -1,68 +1,69 @@
 -- What a command plans on a sound card, by its instruction: its writes are of a sound form where they go, its session is good, and, if P3 is a byte, the data of its outcome lie in the file memory or in the waiting bytes. Assumes nothing.
 use mathlib.Core.Path.{_≡_, refl}
-use mathlib.Core.Bool.{true, false, _&&_}
+use mathlib.Core.Bool.{true, false}
 use mathlib.Core.List.{List}
-use mathlib.Core.Option.{none}
 use Prim.Native.Nat.{ℕ, _≤_}
 use lib.Dec.{eqb}
 use lib.ListN.{length}
-use borrow.Author.Tests.{leb-true}
+use native.Mathlib.Omega.{arith}
+use borrow.Author.Tests.{eqb-false, not-false}
 use Rattle.card.specs.declared.Row.{Row}
-use Rattle.card.specs.Row.{Card, rowOf, hasRecords, isCyclic, activated, deactivated}
+use Rattle.card.specs.Row.{Card, rowOf, hasRecords, activated, deactivated}
 use Rattle.card.specs.Sound.{recordCount, soundTable}
 use Rattle.card.proofs.Promises.{cyclic-records}
 use Rattle.session.specs.declared.Standing.{Standing}
 use Rattle.session.specs.Good.{Good}
 use Rattle.command.specs.declared.Format.{Format}
 use Rattle.command.specs.declared.Command.{Command}
+use Rattle.command.specs.declared.checks.Checked.the-variants.{Passed}
 use Rattle.command.specs.Instructions as ins
 use Rattle.command.specs.Instructions.{isRecord}
 use Rattle.plan.specs.Files.{fileAt}
 use Rattle.plan.specs.Plans.{Situation, offsetOf, readBinary, updateBinary, namedBy, readRecord, updateRecord, search, increase, doneBy}
 use Rattle.decide.specs.Order.{order}
-use Rattle.decide.specs.Fails.{holds, firstFailing}
+use Rattle.decide.specs.Fails.{fails, firstFailing, renews}
 use Rattle.decide.specs.Decisions.{situation, planned}
 use Rattle.decide.proofs.Order.{record-kind}
 use Rattle.decide.proofs.Instructed.{of-planned, by-instruction}
-use Rattle.decide.proofs.Passing.{Passed, passed, data-some, kind-increased, offset-read, length-binary, length-record, length-increased, named-there}
+use Rattle.decide.proofs.Passing.{Passes, passed, data-some, kind-increased, offset-read, length-binary, length-record, length-increased, named-there}
 use Rattle.plan.proofs.Fit.{Fit, fit-failed, fit-response, fit-read, fit-select, fit-update, fit-switch, fit-record, fit-rewrite, fit-search, fit-increase}
 
 module _ (format : Format) (domain : ℕ) (c : Command) («data» : List ℕ) (s : Standing) (card : Card) (sound : soundTable (card .table) (card .files) ≡ true) (good : Good (card .table) s) where
-  -- a command on a file, all of whose checks hold
-  module _ (p : Passed (situation format domain c «data» s card)) where
+  -- a command on a file, all of whose checks are passed
+  module _ (p : Passes (situation format domain c «data» s card)) where
     abbrev r : Row
     r = rowOf (card .table) (s .file)
 
     some-file : 1 ≤ s .file
-    unfolding holds situation
-    some-file = leb-true 1 (s .file) (p .file)
+    unfolding fails situation
+    some-file = let z = eqb-false (s .file) 0 (p .file) in omega arith
 
     has-records : isRecord (c .instruction) ≡ true → hasRecords r ≡ true
-    unfolding holds situation fileAt
-    has-records y = record-kind (c .instruction) r y (p .kind)
+    unfolding fails situation fileAt
+    has-records y = record-kind (c .instruction) r y (not-false _ (p .kind))
 
-    named : isRecord (c .instruction) ≡ true → (eqb (c .instruction) ins.updateRecord && isCyclic r) ≡ false → (1 ≤ namedBy c (s .number) r) × (namedBy c (s .number) r ≤ recordCount r)
-    unfolding holds situation fileAt
+    named : isRecord (c .instruction) ≡ true → renews (c .instruction) r ≡ false → (1 ≤ namedBy c (s .number) r) × (namedBy c (s .number) r ≤ recordCount r)
+    unfolding fails situation fileAt
     named y z = named-there c (s .number) r y z (p .«record»)
 
     by-read : c .instruction ≡ ins.readBinary → Fit card c (readBinary format c s (fileAt card (s .file)))
-    unfolding holds situation fileAt
+    unfolding fails situation fileAt
     by-read e = fit-read card sound c s good some-file format (offset-read (c .instruction) r (offsetOf c) e (p .offset))
 
     by-update : c .instruction ≡ ins.updateBinary → length «data» ≤ 255 → Fit card c (updateBinary c «data» s (fileAt card (s .file)))
-    unfolding holds situation fileAt
+    unfolding fails situation fileAt
     by-update e brief =
         fit-update card sound c s good some-file «data» (data-some c (length «data») (rw e) (p .case)) brief
-        (length-binary (c .instruction) r (offsetOf c) (c .p3) (length «data») (p .length) e)
+        (length-binary (c .instruction) r (offsetOf c) (c .p3) (length «data») (not-false _ (p .length)) e)
 
     by-record : c .instruction ≡ ins.readRecord → Fit card c (readRecord c s (fileAt card (s .file)))
     by-record e = fit-record card sound c s good some-file (has-records (rw e)) (named (rw e) (rw e) .1)
 
     by-rewrite : c .instruction ≡ ins.updateRecord → Fit card c (updateRecord c «data» s (fileAt card (s .file)))
-    unfolding holds situation fileAt
+    unfolding fails situation fileAt
     by-rewrite e =
         fit-rewrite card sound c s good some-file (has-records (rw e)) «data»
-        (length-record (c .instruction) r (offsetOf c) (c .p3) (length «data») (p .length) e)
+        (length-record (c .instruction) r (offsetOf c) (c .p3) (length «data») (not-false _ (p .length)) e)
         (λ n. named (rw e) (rw (e, n)) .1)
 
     by-search : c .instruction ≡ ins.search → Fit card c (search format c «data» s (fileAt card (s .file)))
@@ -71,18 +72,18 @@ module _ (format : Format) (domain : ℕ) (c : Command) («data» : List ℕ) (s
         fit-search card sound c s good some-file (has-records (rw e)) format «data» (n .0) (n .1)
 
     by-increase : c .instruction ≡ ins.increase → Fit card c (increase format «data» s (fileAt card (s .file)))
-    unfolding holds situation fileAt
+    unfolding fails situation fileAt
     by-increase e =
-        let k = kind-increased (c .instruction) r e (p .kind) in
+        let k = kind-increased (c .instruction) r e (not-false _ (p .kind)) in
         fit-increase card sound c s good some-file (cyclic-records r (k .0)) format «data» (k .0) (k .1)
-        (length-increased (c .instruction) r (offsetOf c) (c .p3) (length «data») (p .length) e)
+        (length-increased (c .instruction) r (offsetOf c) (c .p3) (length «data») (not-false _ (p .length)) e)
 
   abbrev w : Situation
   w = situation format domain c «data» s card
 
   -- by its instruction
-  module _ (brief : length «data» ≤ 255) (h : firstFailing w (order (c .instruction)) ≡ none) where
-    checked : {x : ℕ} → c .instruction ≡ x → eqb x ins.select ≡ false → eqb x ins.getResponse ≡ false → Passed w
+  module _ (brief : length «data» ≤ 255) (h : firstFailing w (order (c .instruction)) ≡ Passed) where
+    checked : {x : ℕ} → c .instruction ≡ x → eqb x ins.select ≡ false → eqb x ins.getResponse ≡ false → Passes w
     checked e a b = passed w (c .instruction) (rw e a) (rw e b) h
 
     fit-done : Fit card c (doneBy (c .instruction) w)

@@ -1,12 +1,11 @@
 -- What a command plans on a sound card has room in the journal. Assumes nothing.
 use mathlib.Core.Path.{_≡_, refl, ap, _∙_}
 use mathlib.Core.List.{List, []}
-use mathlib.Core.Option.{none}
 use mathlib.Core.Logic.{⊎-elim}
 use Prim.Native.Nat.{ℕ}
 use native.Mathlib.Omega.{arith}
 use lib.Dec.{eqb}
-use borrow.Author.Tests.{leb-true, eqb-true}
+use borrow.Author.Tests.{ltb-false, eqb-true}
 use Rattle.octets.proofs.Picks.{on-pick, either}
 use Rattle.octets.specs.Choice.{pick}
 use Rattle.card.specs.declared.Row.{Row}
@@ -20,14 +19,15 @@ use Rattle.session.specs.declared.Standing.{Standing}
 use Rattle.command.specs.declared.Format.{Format}
 use Rattle.command.specs.declared.Format.the-variants.{Compact, Expanded}
 use Rattle.command.specs.declared.Command.{Command}
+use Rattle.command.specs.declared.checks.Checked.the-variants.{Passed}
 use Rattle.command.specs.Instructions as ins
 use Rattle.plan.specs.Ends.{Plan, failed, done, produced}
 use Rattle.plan.specs.Files.{fileAt}
 use Rattle.plan.specs.Plans.{Situation, selectEntry, select, getResponse, doneBy}
 use Rattle.decide.specs.Order.{order}
-use Rattle.decide.specs.Fails.{holds, firstFailing, journalFits}
+use Rattle.decide.specs.Fails.{fails, firstFailing, journalFull}
 use Rattle.decide.specs.Decisions.{situation, planned}
-use Rattle.decide.proofs.Passing.{Passed, passed}
+use Rattle.decide.proofs.Passing.{Passes, passed}
 use Rattle.decide.proofs.Instructed.{of-planned}
 
 produced-writes : (format : Format) (s : Standing) (word : ℕ) (d : List ℕ) (ws : List Write) → produced format s word d ws .writes ≡ ws
@@ -56,14 +56,14 @@ module _ (format : Format) (domain : ℕ) (c : Command) («data» : List ℕ) (s
   unfolding cost
   free ws e = rw e (omega (arith, used-inside (card .table) (card .files) (card .journal) parts))
 
-  file-room : Passed (situation format domain c «data» s card) → Room (doneBy (c .instruction) (situation format domain c «data» s card) .writes)
-  unfolding holds journalFits situation fileAt
-  file-room p = room-left (card .table) (card .files) (card .journal) _ parts (leb-true _ _ (p .journal))
+  file-room : Passes (situation format domain c «data» s card) → Room (doneBy (c .instruction) (situation format domain c «data» s card) .writes)
+  unfolding fails journalFull situation fileAt
+  file-room p = room-left (card .table) (card .files) (card .journal) _ parts (ltb-false _ _ (p .journal))
 
   abbrev w : Situation
   w = situation format domain c «data» s card
 
-  done-room : firstFailing w (order (c .instruction)) ≡ none → Room (doneBy (c .instruction) w .writes)
+  done-room : firstFailing w (order (c .instruction)) ≡ Passed → Room (doneBy (c .instruction) w .writes)
   done-room h =
       let i = c .instruction in
       ⊎-elim
@@ -73,4 +73,4 @@ module _ (format : Format) (domain : ℕ) (c : Command) («data» : List ℕ) (s
 
   pub planned-room : Room (planned w .writes)
   unfolding situation failed
-  planned-room = of-planned (λ (p : Plan). Room (p .writes)) w (λ word. free [] refl) done-room
+  planned-room = of-planned (λ (p : Plan). Room (p .writes)) w (λ k. free [] refl) done-room

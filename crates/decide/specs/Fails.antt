@@ -2,7 +2,6 @@
 use Prim.Native.Nat.{ℕ, _+_, _/_, _%_}
 use mathlib.Core.Bool.{Bool, true, false, not, _&&_, _||_}
 use mathlib.Core.List.{List, [], _∷_}
-use mathlib.Core.Option.{Option, none, some}
 use lib.ListN.{length}
 use lib.Dec.{leb, ltb, eqb}
 use Rattle.octets.specs.Choice.{pick}
@@ -11,20 +10,28 @@ use Rattle.card.specs.declared.tree.Found.{Found}
 use Rattle.card.specs.declared.tree.Found.the-variants.{At, Nothing}
 use Rattle.card.specs.Row.{isTransparent, isCyclic, hasRecords, isDeactivated}
 use Rattle.journal.specs.Changes.{cost}
+use Rattle.session.specs.Session.{none}
 use Rattle.command.specs.declared.Command.{Command}
-use Rattle.command.specs.Instructions.{carriesData, isOutgoing, isSwitch, isKnown, isBinary, isRecord, classOf, caseOf, noData, withFcp, neverBit}
-use Rattle.command.specs.Checks.{Check, brokenForm, bytesAfter, isNever, isShut, journalFull, moreThanWaits, noFile, noRecord, notFound, nothingWaits, offsetOutside, sumTooLong, unknownInstruction, wrongCase, wrongClass, wrongDomain, wrongKind, wrongLength, wrongMode, wrongParameters, wrongPathLength}
+use Rattle.command.specs.declared.checks.Check.{Check}
+use Rattle.command.specs.declared.checks.Check.the-variants.{BrokenForm, UnknownInstruction, WrongClass, BytesAfter, WrongCase, WrongParameters, WrongDomain, WrongPathLength, NotFound, NothingWaits, MoreThanWaits, NoFile, WrongKind, WrongMode, Deactivated, Never, OffsetOutside, NoRecord, WrongLength, SumTooLong, JournalFull, AnswerTooLong}
+use Rattle.command.specs.declared.checks.Checked.{Checked}
+use Rattle.command.specs.declared.checks.Checked.the-variants.{Passed, Failed}
 use Rattle.command.specs.Instructions as ins
-use Rattle.plan.specs.Files.{modeNext, modePrevious, modeAbsolute, searchForward, searchBackward, hasRecord, sumFits}
+use Rattle.command.specs.Instructions.{carriesData, isOutgoing, isSwitch, isKnown, isBinary, isRecord, classOf, caseOf, noData, withFcp, neverBit}
+use Rattle.plan.specs.Files.{modeNext, modePrevious, modeAbsolute, searchForward, searchBackward, hasRecord, sumTooLong}
 use Rattle.plan.specs.Plans.{Situation, offsetOf, namedBy, doneBy}
 
--- "wrong case, Lc 0"
-unfoldable pub caseFits : Command → ℕ → Bool
-caseFits c lc =
-    eqb (c .case) (caseOf (c .instruction) (c .p2))
-    && not (carriesData (c .instruction) && eqb lc 0)
+-- "compact B0, B2, C0 with bytes after it"
+abbrev pub bytesAfter : Command → Bool
+bytesAfter c = isOutgoing (c .instruction) && c .after
 
--- "P1P2"
+-- "wrong case, Lc 0"
+unfoldable pub wrongCase : Command → ℕ → Bool
+wrongCase c lc =
+    not (eqb (c .case) (caseOf (c .instruction) (c .p2)))
+    || (carriesData (c .instruction) && eqb lc 0)
+
+-- the P1 and P2 that an instruction takes; "P1P2 6A86 (B0, D6: P1 above 7F)"
 unfoldable pub parametersFit : ℕ → ℕ → ℕ → Bool
 parametersFit i p1 p2 =
     pick (eqb i ins.select)
@@ -38,10 +45,10 @@ parametersFit i p1 p2 =
     (eqb p1 0x00 && eqb p2 0x00))))
 
 -- "domain FF 6982 (C0 exempt)"
-abbrev pub domainFits : ℕ → ℕ → Bool
-domainFits i domain = eqb i ins.getResponse || not (eqb domain 0xFF)
+abbrev pub wrongDomain : ℕ → ℕ → Bool
+wrongDomain i domain = eqb domain 0xFF && not (eqb i ins.getResponse)
 
--- "P1 00: two bytes", else "1 to 8 identifiers"
+-- the data lengths that SELECT takes: "P1 00: two bytes", else "1 to 8 identifiers"
 unfoldable pub pathLengthFits : ℕ → ℕ → Bool
 pathLengthFits p1 n = pick (eqb p1 0) (eqb n 2) (eqb (n % 2) 0 && (leb 2 n && leb n 16))
 
@@ -53,7 +60,7 @@ isFound Nothing = false
 abbrev pub longestIncrease : ℕ
 longestIncrease = 127
 
--- "kind (INCREASE: or record above 127)"
+-- the kinds of file that an instruction works on; "kind (INCREASE: or record above 127) 6981"
 unfoldable pub kindFits : ℕ → Row → Bool
 kindFits i r =
     pick (isBinary i)
@@ -62,34 +69,37 @@ kindFits i r =
     (hasRecords r)
     (pick (eqb i ins.increase) (isCyclic r && leb (r .«record») longestIncrease) true))
 
--- "DC on cyclic: mode 03 only"
-abbrev pub modeFits : ℕ → ℕ → Row → Bool
-modeFits i p2 r = not (eqb i ins.updateRecord && isCyclic r) || eqb p2 modePrevious
+-- DC on a cyclic file writes the oldest place, whatever the record number
+abbrev pub renews : ℕ → Row → Bool
+renews i r = eqb i ins.updateRecord && isCyclic r
+
+-- "DC on cyclic outside mode 03 6A86"
+abbrev pub wrongMode : ℕ → ℕ → Row → Bool
+wrongMode i p2 r = renews i r && not (eqb p2 modePrevious)
 
 -- "deactivated 6984 (04, 44 exempt)"
-abbrev pub stateFits : ℕ → Row → Bool
-stateFits i r = isSwitch i || not (isDeactivated r)
+abbrev pub isShut : ℕ → Row → Bool
+isShut i r = isDeactivated r && not (isSwitch i)
 
 -- whether a NEVER byte has a bit
 abbrev pub hasBit : ℕ → ℕ → Bool
 hasBit never bit = eqb (never / bit % 2) 1
 
 -- "NEVER bit 6982"
-abbrev pub neverFits : ℕ → Row → Bool
-neverFits i r = not (hasBit (r .never) (neverBit i))
+abbrev pub isNever : ℕ → Row → Bool
+isNever i r = hasBit (r .never) (neverBit i)
 
--- "offset not below length"
-abbrev pub offsetFits : ℕ → ℕ → Row → Bool
-offsetFits i offset r = not (isBinary i) || ltb offset (r .size)
+-- "offset not below length 6B00"
+abbrev pub offsetOutside : ℕ → ℕ → Row → Bool
+offsetOutside i offset r = isBinary i && leb (r .size) offset
 
--- "record 6A83"; DC on cyclic writes the oldest place, whatever the record number
-unfoldable pub recordFits : Command → ℕ → Row → Bool
-recordFits c number r =
-    not (isRecord (c .instruction))
-    || ((eqb (c .instruction) ins.updateRecord && isCyclic r) || hasRecord r (namedBy c number r))
+-- "record 6A83"
+unfoldable pub noRecord : Command → ℕ → Row → Bool
+noRecord c number r =
+    (isRecord (c .instruction) && not (renews (c .instruction) r)) && not (hasRecord r (namedBy c number r))
 
--- "P3 of B2 is 00 or the record length; Lc of DC is the record length"; "lengths against file or record 6700 (INCREASE, SEARCH: Lc
--- above record length)"
+-- the lengths that an instruction takes: "P3 of B2 is 00 or the record length; Lc of DC is the record length"; "lengths against file or
+-- record 6700 (INCREASE, SEARCH: Lc above record length)"
 unfoldable pub lengthFits : ℕ → ℕ → ℕ → ℕ → Row → Bool
 lengthFits i offset p3 lc r =
     pick (eqb i ins.updateBinary)
@@ -101,35 +111,40 @@ lengthFits i offset p3 lc r =
     (pick (eqb i ins.search || eqb i ins.increase) (leb lc (r .«record»)) true)))
 
 -- "6581 exactly when U would pass 2,044"
-unfoldable pub journalFits : Situation → Bool
-journalFits w = leb (w .file .used + cost (doneBy (w .command .instruction) w .writes)) (w .file .room)
+unfoldable pub journalFull : Situation → Bool
+journalFull w = ltb (w .file .room) (w .file .used + cost (doneBy (w .command .instruction) w .writes))
 
--- whether a check holds in a situation
-unfoldable pub holds : Situation → Check → Bool
-holds w brokenForm = w .command .whole
-holds w unknownInstruction = isKnown (w .command .instruction)
-holds w wrongClass = eqb (w .command .class) (classOf (w .command .instruction))
-holds w bytesAfter = not (isOutgoing (w .command .instruction) && w .command .after)
-holds w wrongCase = caseFits (w .command) (length (w .«data»))
-holds w wrongParameters = parametersFit (w .command .instruction) (w .command .p1) (w .command .p2)
-holds w wrongDomain = domainFits (w .command .instruction) (w .domain)
-holds w wrongPathLength = pathLengthFits (w .command .p1) (length (w .«data»))
-holds w notFound = isFound (w .found)
-holds w nothingWaits = leb 1 (w .session .valid)
-holds w moreThanWaits = leb (w .command .p3) (w .session .valid)
-holds w noFile = leb 1 (w .session .file)
-holds w wrongKind = kindFits (w .command .instruction) (w .file .row)
-holds w wrongMode = modeFits (w .command .instruction) (w .command .p2) (w .file .row)
-holds w isShut = stateFits (w .command .instruction) (w .file .row)
-holds w isNever = neverFits (w .command .instruction) (w .file .row)
-holds w offsetOutside = offsetFits (w .command .instruction) (offsetOf (w .command)) (w .file .row)
-holds w noRecord = recordFits (w .command) (w .session .number) (w .file .row)
-holds w wrongLength =
-    lengthFits (w .command .instruction) (offsetOf (w .command)) (w .command .p3) (length (w .«data»)) (w .file .row)
-holds w sumTooLong = sumFits (w .command .instruction) (w .file) (w .«data»)
-holds w journalFull = journalFits w
+-- whether a check fails in a situation; the last is about an answer, and no situation of a command says it
+unfoldable pub fails : Situation → Check → Bool
+fails w BrokenForm = not (w .command .whole)
+fails w UnknownInstruction = not (isKnown (w .command .instruction))
+fails w WrongClass = not (eqb (w .command .class) (classOf (w .command .instruction)))
+fails w BytesAfter = bytesAfter (w .command)
+fails w WrongCase = wrongCase (w .command) (length (w .«data»))
+fails w WrongParameters = not (parametersFit (w .command .instruction) (w .command .p1) (w .command .p2))
+fails w WrongDomain = wrongDomain (w .command .instruction) (w .domain)
+fails w WrongPathLength = not (pathLengthFits (w .command .p1) (length (w .«data»)))
+fails w NotFound = not (isFound (w .found))
+fails w NothingWaits = eqb (w .session .valid) 0
+fails w MoreThanWaits = ltb (w .session .valid) (w .command .p3)
+fails w NoFile = eqb (w .session .file) none
+fails w WrongKind = not (kindFits (w .command .instruction) (w .file .row))
+fails w WrongMode = wrongMode (w .command .instruction) (w .command .p2) (w .file .row)
+fails w Deactivated = isShut (w .command .instruction) (w .file .row)
+fails w Never = isNever (w .command .instruction) (w .file .row)
+fails w OffsetOutside = offsetOutside (w .command .instruction) (offsetOf (w .command)) (w .file .row)
+fails w NoRecord = noRecord (w .command) (w .session .number) (w .file .row)
+fails w WrongLength =
+    not (lengthFits (w .command .instruction) (offsetOf (w .command)) (w .command .p3) (length (w .«data»)) (w .file .row))
+fails w SumTooLong = sumTooLong (w .command .instruction) (w .file) (w .«data»)
+fails w JournalFull = journalFull w
+fails w AnswerTooLong = false
 
--- the first check of a list that does not hold
-unfoldable pub firstFailing : Situation → List Check → Option Check
-firstFailing w [] = none
-firstFailing w (k ∷ ks) = pick (holds w k) (firstFailing w ks) (some k)
+-- the check that a command with an unknown instruction fails
+unfoldable pub unknownCheck : Command → Check
+unknownCheck c = pick (c .whole) UnknownInstruction BrokenForm
+
+-- the first check of a list that fails
+unfoldable pub firstFailing : Situation → List Check → Checked
+firstFailing w [] = Passed
+firstFailing w (k ∷ ks) = pick (fails w k) (Failed k) (firstFailing w ks)

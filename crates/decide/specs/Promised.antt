@@ -3,9 +3,8 @@ use Prim.Native.Nat.{ℕ, _+_, _≤_}
 use mathlib.Core.Path.{_≡_}
 use mathlib.Core.Bool.{true}
 use mathlib.Core.List.{List, [], _∷_, _++_}
-use mathlib.Core.Option.{Option, none, some}
 use lib.ListN.{length}
-use lib.Dec.{leb}
+use lib.Dec.{ltb, eqb}
 use Rattle.octets.specs.Choice.{pick}
 use Rattle.card.specs.declared.Row.{Row}
 use Rattle.card.specs.Row.{hasRecords, Card, lent}
@@ -17,7 +16,9 @@ use Rattle.session.specs.declared.Standing.{Standing}
 use Rattle.session.specs.Good.{Good}
 use Rattle.command.specs.declared.Command.{Command}
 use Rattle.command.specs.declared.Format.{Format}
-use Rattle.command.specs.Checks.{nothingWaits, moreThanWaits, sumTooLong, journalFull, checkWord, Check}
+use Rattle.command.specs.declared.checks.Check.{Check}
+use Rattle.command.specs.declared.checks.Check.the-variants.{NothingWaits, MoreThanWaits, SumTooLong, JournalFull}
+use Rattle.command.specs.declared.checks.Checked.{Checked}
 use Rattle.command.specs.Promised.{OfBytes}
 use Rattle.plan.specs.declared.Decision.{Decision}
 use Rattle.plan.specs.Plans.{Situation, getResponse}
@@ -27,34 +28,28 @@ use Rattle.decide.specs.Order.{formalChecks, boundChecks, laterChecks}
 use Rattle.decide.specs.Fails.{firstFailing}
 use Rattle.decide.specs.Decisions.{situation, decided}
 
--- the word of a check that fails, and 0 for none
-unfoldable pub failWord : Option Check → ℕ
-failWord none = 0
-failWord (some k) = checkWord k
+-- what came of a list of checks is what comes of it in every situation of which so much is known
+abbrev pub FirstOf : List Check → (Situation → Type 0) → Checked → Type 0
+FirstOf ks Known r = (w : Situation) → Known w → r ≡ firstFailing w ks
 
--- a number is the word of the first check of a list that fails, or 0, in every situation of which so much is known
-abbrev pub FirstWord : List Check → (Situation → Type 0) → ℕ → Type 0
-FirstWord ks Known n = (w : Situation) → Known w → n ≡ failWord (firstFailing w ks)
-
--- what may be known of a situation: the command and how many data bytes it has; the current file with its row, and the current record
+-- what may be known of a situation: the command and how many data bytes it has; the session, and the row of the file that it works on
 pub record OfCommand (c : Command) (lc : ℕ) (w : Situation) : Type 0 where
   pub command : w .command ≡ c
   pub count : length (w .«data») ≡ lc
 
-pub record OnFile (f n : ℕ) (r : Row) (w : Situation) : Type 0 where
-  pub file : w .session .file ≡ f
-  pub number : w .session .number ≡ n
+pub record OnFile (s : Standing) (r : Row) (w : Situation) : Type 0 where
+  pub session : w .session ≡ s
   pub row : w .file .row ≡ r
 
 -- what the formal checks look at; what the checks on a file look at, up to the lengths; and both
 abbrev pub Formal : Command → ℕ → ℕ → Situation → Type 0
 Formal c lc domain w = OfCommand c lc w × (w .domain ≡ domain)
 
-abbrev pub Bound : Command → ℕ → ℕ → ℕ → Row → Situation → Type 0
-Bound c lc file number r w = OfCommand c lc w × OnFile file number r w
+abbrev pub Bound : Command → ℕ → Standing → Row → Situation → Type 0
+Bound c lc s r w = OfCommand c lc w × OnFile s r w
 
-abbrev pub Whole : Command → ℕ → ℕ → ℕ → ℕ → Row → Situation → Type 0
-Whole c lc domain file number r w = Formal c lc domain w × OnFile file number r w
+abbrev pub Whole : Command → ℕ → ℕ → Standing → Row → Situation → Type 0
+Whole c lc domain s r w = Formal c lc domain w × OnFile s r w
 
 -- what the checks on a file go by: the command's instruction, that the file's records are not empty, and that the command's numbers are bytes
 abbrev pub Checkable : ℕ → Command → ℕ → Row → Type 0
@@ -62,14 +57,14 @@ Checkable i c lc r = (c .instruction ≡ i) × (hasRecords r ≡ true → 1 ≤ 
 
 -- a plan behind the check of the journal's room
 unfoldable pub roomed : ℕ → ℕ → Standing → Plan → Plan
-roomed used room s plan = pick (leb (used + cost (plan .writes)) room) plan (failed s (checkWord journalFull))
+roomed used room s plan = pick (ltb room (used + cost (plan .writes))) (failed s JournalFull) plan
 
 -- GET RESPONSE behind the formal checks
 unfoldable pub responded : Command → Standing → Plan
 responded c s =
-    pick (leb 1 (s .valid))
-    (pick (leb (c .p3) (s .valid)) (getResponse c s) (failed s (checkWord moreThanWaits)))
-    (failed s (checkWord nothingWaits))
+    pick (eqb (s .valid) 0)
+    (failed s NothingWaits)
+    (pick (ltb (s .valid) (c .p3)) (failed s MoreThanWaits) (getResponse c s))
 
 -- what comes of a command whose formal checks hold
 unfoldable pub behindForm : Situation → Plan
@@ -77,7 +72,7 @@ behindForm w = decided w (firstFailing w (laterChecks (w .command .instruction))
 
 -- what comes of a file command, but for the journal's room
 unfoldable pub roomless : Situation → Plan
-roomless w = decided w (firstFailing w (formalChecks ++ (boundChecks ++ (sumTooLong ∷ []))))
+roomless w = decided w (firstFailing w (formalChecks ++ (boundChecks ++ (SumTooLong ∷ []))))
 
 -- what a file command may go by: the table is sound, the session good, and the command's numbers are bytes
 pub record Able (t files : List ℕ) (s : Standing) (c : Command) (lc : ℕ) : Type 0 where

@@ -1,6 +1,8 @@
-// The checks of one command, in the paper's order.
+// When each check fails, and the first that does, in the paper's order.
 use card::Row;
 use command::Command;
+use command::checks::Check;
+use command::checks::Checked;
 use command::instruction::GET_RESPONSE;
 use command::instruction::INCREASE;
 use command::instruction::NO_DATA;
@@ -26,26 +28,28 @@ use plan::records::has_record;
 use plan::records::record_of;
 use plan::search::SEARCH_BACKWARD;
 use plan::search::SEARCH_FORWARD;
+use plan::target;
+use session::Standing;
 ghost use mathlib.Core.Path.{_≡_};
 ghost use mathlib.Core.Bool.{true};
 ghost use Prim.Native.Nat.{_≤_, _<_};
 ghost use Rattle.card.specs.Row.{hasRecords};
 ghost use Rattle.decide.specs.Fails as spec;
-ghost use Rattle.decide.specs.Promised.{Bound, Checkable, FirstWord, Formal};
+ghost use Rattle.decide.specs.Promised.{FirstOf, Formal, Bound, Checkable};
 ghost use Rattle.decide.specs.Order.{boundChecks, formalChecks};
 
 // "INCREASE, .. record length at most 127"
 const LONGEST_INCREASE: usize = 127;
 
-// The case and Lc.
-fn case_fits(i: usize, c: Command, lc: usize) -> bool
+// Whether a command has the wrong case, or Lc 0.
+fn wrong_case(i: usize, c: Command, lc: usize) -> bool
     requires { ⌜ c .instruction ≡ i ⌝ }
-    ensures { λ b. ⌜ b ≡ spec.caseFits c lc ⌝ }
+    ensures { λ b. ⌜ b ≡ spec.wrongCase c lc ⌝ }
 {
-    (c.case == case_of(i, c.p2)) & !(carries_data(i) & (lc == 0))
+    !(c.case == case_of(i, c.p2)) | (carries_data(i) & (lc == 0))
 }
 
-// P1P2.
+// Whether an instruction takes P1 and P2.
 fn parameters_fit(i: usize, p1: usize, p2: usize) -> bool
     ensures { λ b. ⌜ b ≡ spec.parametersFit i p1 p2 ⌝ }
 {
@@ -65,43 +69,53 @@ fn parameters_fit(i: usize, p1: usize, p2: usize) -> bool
     (p1 == 0x00) & (p2 == 0x00)
 }
 
-// The access domain.
-fn domain_fits(i: usize, domain: usize) -> bool
-    ensures { λ b. ⌜ b ≡ spec.domainFits i domain ⌝ }
+// Whether the access domain shuts an instruction out.
+fn wrong_domain(i: usize, domain: usize) -> bool
+    ensures { λ b. ⌜ b ≡ spec.wrongDomain i domain ⌝ }
 {
-    (i == GET_RESPONSE) | !(domain == 0xFF)
+    (domain == 0xFF) & !(i == GET_RESPONSE)
 }
 
-// The word of the first formal check that fails for a command with its instruction, or 0.
-pub fn formal_word(i: usize, c: Command, lc: usize, domain: usize) -> usize
+// The first of the checks that every command meets, for a command with its instruction i and lc data bytes.
+pub fn formal_check(i: usize, c: Command, lc: usize, domain: usize) -> Checked
     requires { ⌜ c .instruction ≡ i ⌝ }
-    ensures { λ n. ⌜ FirstWord formalChecks (Formal c lc domain) n ⌝ }
+    ensures { λ r. ⌜ FirstOf formalChecks (Formal c lc domain) r ⌝ }
 {
     if !c.whole {
-        return 0x6700;
+        return Checked::Failed(Check::BrokenForm);
     }
     if !is_known(i) {
-        return 0x6D00;
+        return Checked::Failed(Check::UnknownInstruction);
     }
     if c.class != class_of(i) {
-        return 0x6E00;
+        return Checked::Failed(Check::WrongClass);
     }
     if is_outgoing(i) & c.after {
-        return 0x6985;
+        return Checked::Failed(Check::BytesAfter);
     }
-    if !case_fits(i, c, lc) {
-        return 0x6700;
+    if wrong_case(i, c, lc) {
+        return Checked::Failed(Check::WrongCase);
     }
     if !parameters_fit(i, c.p1, c.p2) {
-        return 0x6A86;
+        return Checked::Failed(Check::WrongParameters);
     }
-    if !domain_fits(i, domain) {
-        return 0x6982;
+    if wrong_domain(i, domain) {
+        return Checked::Failed(Check::WrongDomain);
     }
-    0
+    Checked::Passed
 }
 
-// The data length of a SELECT.
+// The check that a command with an unknown instruction fails.
+pub fn unknown_check(c: Command) -> Check
+    ensures { λ k. ⌜ k ≡ spec.unknownCheck c ⌝ }
+{
+    if !c.whole {
+        return Check::BrokenForm;
+    }
+    Check::UnknownInstruction
+}
+
+// Whether SELECT with P1 takes n data bytes.
 pub fn path_length_fits(p1: usize, n: usize) -> bool
     ensures { λ b. ⌜ b ≡ spec.pathLengthFits p1 n ⌝ }
 {
@@ -111,7 +125,7 @@ pub fn path_length_fits(p1: usize, n: usize) -> bool
     (n % 2 == 0) & ((2 <= n) & (n <= 16))
 }
 
-// The file's kind.
+// Whether an instruction works on a file of a kind.
 fn kind_fits(i: usize, r: Row) -> bool
     ensures { λ b. ⌜ b ≡ spec.kindFits i r ⌝ }
 {
@@ -127,50 +141,50 @@ fn kind_fits(i: usize, r: Row) -> bool
     true
 }
 
-// The mode of DC.
-fn mode_fits(i: usize, p2: usize, r: Row) -> bool
-    ensures { λ b. ⌜ b ≡ spec.modeFits i p2 r ⌝ }
+// Whether DC is put to a cyclic file outside mode 03.
+fn wrong_mode(i: usize, p2: usize, r: Row) -> bool
+    ensures { λ b. ⌜ b ≡ spec.wrongMode i p2 r ⌝ }
 {
-    !((i == UPDATE_RECORD) & (r.kind == card::CYCLIC)) | (p2 == MODE_PREVIOUS)
+    ((i == UPDATE_RECORD) & (r.kind == card::CYCLIC)) & !(p2 == MODE_PREVIOUS)
 }
 
-// The file's state.
-fn state_fits(i: usize, r: Row) -> bool
-    ensures { λ b. ⌜ b ≡ spec.stateFits i r ⌝ }
+// Whether the file is deactivated, for an instruction that asks.
+fn is_shut(i: usize, r: Row) -> bool
+    ensures { λ b. ⌜ b ≡ spec.isShut i r ⌝ }
 {
-    is_switch(i) | !(r.state == card::DEACTIVATED)
+    (r.state == card::DEACTIVATED) & !is_switch(i)
 }
 
-// The file's NEVER bits.
-fn never_fits(i: usize, r: Row) -> bool
-    ensures { λ b. ⌜ b ≡ spec.neverFits i r ⌝ }
+// Whether the file's NEVER bits shut an instruction out.
+fn is_never(i: usize, r: Row) -> bool
+    ensures { λ b. ⌜ b ≡ spec.isNever i r ⌝ }
 {
     let bit = never_bit(i);
-    !(r.never / bit % 2 == 1)
+    r.never / bit % 2 == 1
 }
 
-// The offset.
-fn offset_fits(i: usize, offset: usize, r: Row) -> bool
-    ensures { λ b. ⌜ b ≡ spec.offsetFits i offset r ⌝ }
+// Whether an offset into a transparent file is not below its length.
+fn offset_outside(i: usize, offset: usize, r: Row) -> bool
+    ensures { λ b. ⌜ b ≡ spec.offsetOutside i offset r ⌝ }
 {
-    !is_binary(i) | (offset < r.size)
+    is_binary(i) & (r.size <= offset)
 }
 
-// The record.
-fn record_fits(i: usize, c: Command, number: usize, r: Row) -> bool
+// Whether a command names a record, from the current record number, that the file has not.
+fn no_record(i: usize, c: Command, number: usize, r: Row) -> bool
     requires { ⌜ (c .instruction ≡ i) × (hasRecords r ≡ true → 1 ≤ r .«record») × (spec.kindFits i r ≡ true) ⌝ }
-    ensures { λ b. ⌜ b ≡ spec.recordFits c number r ⌝ }
+    ensures { λ b. ⌜ b ≡ spec.noRecord c number r ⌝ }
 {
     if !is_record(i) {
-        return true;
+        return false;
     }
     if (i == UPDATE_RECORD) & (r.kind == card::CYCLIC) {
-        return true;
+        return false;
     }
-    has_record(r, record_of(c, number, r))
+    !has_record(r, record_of(c, number, r))
 }
 
-// Lengths against file or record.
+// Whether an instruction takes these lengths against file or record.
 fn length_fits(i: usize, offset: usize, p3: usize, lc: usize, r: Row) -> bool
     requires { ⌜ (offset < 65536) × (lc < 65536) ⌝ }
     ensures { λ b. ⌜ b ≡ spec.lengthFits i offset p3 lc r ⌝ }
@@ -190,36 +204,36 @@ fn length_fits(i: usize, offset: usize, p3: usize, lc: usize, r: Row) -> bool
     true
 }
 
-// The word of the first check of a file command with its instruction that fails, up to the lengths, or 0. The file is the current one
-// with its row, and the record number is the current one.
-pub fn bound_word(i: usize, c: Command, lc: usize, file: usize, number: usize, r: Row) -> usize
+// The first of the checks on a file, up to the lengths, for a command with its instruction i and lc data bytes, from where its session
+// stands, on a file with the row r.
+pub fn file_check(i: usize, c: Command, lc: usize, s: Standing, r: Row) -> Checked
     requires { ⌜ Checkable i c lc r ⌝ }
-    ensures { λ n. ⌜ FirstWord boundChecks (Bound c lc file number r) n ⌝ }
+    ensures { λ k. ⌜ FirstOf boundChecks (Bound c lc s r) k ⌝ }
 {
     let offset = c.p1 * 256 + c.p2;
-    if file < 1 {
-        return 0x6986;
+    if target(s) == 0 {
+        return Checked::Failed(Check::NoFile);
     }
     if !kind_fits(i, r) {
-        return 0x6981;
+        return Checked::Failed(Check::WrongKind);
     }
-    if !mode_fits(i, c.p2, r) {
-        return 0x6A86;
+    if wrong_mode(i, c.p2, r) {
+        return Checked::Failed(Check::WrongMode);
     }
-    if !state_fits(i, r) {
-        return 0x6984;
+    if is_shut(i, r) {
+        return Checked::Failed(Check::Deactivated);
     }
-    if !never_fits(i, r) {
-        return 0x6982;
+    if is_never(i, r) {
+        return Checked::Failed(Check::Never);
     }
-    if !offset_fits(i, offset, r) {
-        return 0x6B00;
+    if offset_outside(i, offset, r) {
+        return Checked::Failed(Check::OffsetOutside);
     }
-    if !record_fits(i, c, number, r) {
-        return 0x6A83;
+    if no_record(i, c, s.number as usize, r) {
+        return Checked::Failed(Check::NoRecord);
     }
     if !length_fits(i, offset, c.p3, lc, r) {
-        return 0x6700;
+        return Checked::Failed(Check::WrongLength);
     }
-    0
+    Checked::Passed
 }

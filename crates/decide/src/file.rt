@@ -1,10 +1,11 @@
 // The file commands: the first check that fails, or what the instruction does, but for the journal's room. There is one function for
 // each instruction, which names it to the checks as a number.
-use crate::checks::bound_word;
-use crate::checks::formal_word;
+use crate::checks::file_check;
+use crate::checks::formal_check;
 use card::Row;
 use command::Command;
 use command::Format;
+use command::checks::Checked;
 use command::instruction::ACTIVATE;
 use command::instruction::DEACTIVATE;
 use command::instruction::INCREASE;
@@ -16,26 +17,35 @@ use command::instruction::UPDATE_RECORD;
 use plan::Decision;
 use plan::does;
 use plan::failed;
+use plan::target;
 use session::Standing;
 ghost use mathlib.Core.Path.{_≡_};
 ghost use mathlib.Core.List.{List, _++_};
-ghost use Prim.Native.Nat.{ℕ};
+ghost use Prim.Native.Nat.{ℕ, _+_, _*_, _≤_};
 ghost use lib.ListN.{length};
+ghost use Rattle.card.specs.Row.{Narrow, entrySize, rowOf};
 ghost use Rattle.command.specs.Instructions as ins;
-ghost use Rattle.decide.specs.Promised as checks-spec;
+ghost use Rattle.plan.specs.Files as files-spec;
 ghost use Rattle.decide.specs.Order.{boundChecks, formalChecks};
-ghost use Rattle.decide.specs.Promised.{Able, Unroomed};
+ghost use Rattle.decide.specs.Promised.{FirstOf, Whole, Checkable, Able, Unroomed};
 
-// The word of the first check of a file command that fails, up to the lengths, or 0.
-fn checked(i: usize, c: Command, lc: usize, domain: usize, s: Standing, r: Row) -> usize
-    requires { ⌜ checks-spec.Checkable i c lc r ⌝ }
-    ensures { λ n. ⌜ checks-spec.FirstWord (formalChecks ++ boundChecks) (checks-spec.Whole c lc domain (s .file) (s .number) r) n ⌝ }
+// The row of the file that a command works on.
+fn target_row(table: &[u8], s: Standing) -> Row
+    requires { ⌜ entrySize * files-spec.target s + entrySize ≤ length (now table) ⌝ }
+    ensures { λ r. ⌜ (r ≡ rowOf (now (table .entry)) (files-spec.target s)) × Narrow r ⌝ }
 {
-    let word = formal_word(i, c, lc, domain);
-    if word != 0 {
-        return word;
+    card::row_at(table, target(s))
+}
+
+// The first check of a file command that fails, up to the lengths.
+fn checked(i: usize, c: Command, lc: usize, domain: usize, s: Standing, r: Row) -> Checked
+    requires { ⌜ Checkable i c lc r ⌝ }
+    ensures { λ k. ⌜ FirstOf (formalChecks ++ boundChecks) (Whole c lc domain s r) k ⌝ }
+{
+    if let Checked::Failed(k) = formal_check(i, c, lc, domain) {
+        return Checked::Failed(k);
     }
-    bound_word(i, c, lc, s.file as usize, s.number as usize, r)
+    file_check(i, c, lc, s, r)
 }
 
 // READ BINARY.
@@ -51,10 +61,9 @@ pub fn read_binary(
     requires { ⌜ Able (now table) (now files) s c (length (now «data»)) × (c .instruction ≡ ins.readBinary) ⌝ }
     ensures { λ d. ⌜ ((bytes : List ℕ) → Unroomed format domain c (now («data» .entry)) s (now (table .entry)) (now (files .entry)) bytes d) ⌝ }
 {
-    let r = card::row_at(table, s.file as usize);
-    let word = checked(READ_BINARY, c, data.len(), domain, s, r);
-    if word != 0 {
-        return failed(s, word);
+    let r = target_row(table, s);
+    if let Checked::Failed(k) = checked(READ_BINARY, c, data.len(), domain, s, r) {
+        return failed(s, k);
     }
     does::read_binary(format, c, s, r)
 }
@@ -71,10 +80,9 @@ pub fn update_binary(
     requires { ⌜ Able (now table) (now files) s c (length (now «data»)) × (c .instruction ≡ ins.updateBinary) ⌝ }
     ensures { λ d. ⌜ ((format : Format) (bytes : List ℕ) → Unroomed format domain c (now («data» .entry)) s (now (table .entry)) (now (files .entry)) bytes d) ⌝ }
 {
-    let r = card::row_at(table, s.file as usize);
-    let word = checked(UPDATE_BINARY, c, data.len(), domain, s, r);
-    if word != 0 {
-        return failed(s, word);
+    let r = target_row(table, s);
+    if let Checked::Failed(k) = checked(UPDATE_BINARY, c, data.len(), domain, s, r) {
+        return failed(s, k);
     }
     does::update_binary(c, s, r)
 }
@@ -91,10 +99,9 @@ pub fn read_record(
     requires { ⌜ Able (now table) (now files) s c (length (now «data»)) × (c .instruction ≡ ins.readRecord) ⌝ }
     ensures { λ d. ⌜ ((format : Format) (bytes : List ℕ) → Unroomed format domain c (now («data» .entry)) s (now (table .entry)) (now (files .entry)) bytes d) ⌝ }
 {
-    let r = card::row_at(table, s.file as usize);
-    let word = checked(READ_RECORD, c, data.len(), domain, s, r);
-    if word != 0 {
-        return failed(s, word);
+    let r = target_row(table, s);
+    if let Checked::Failed(k) = checked(READ_RECORD, c, data.len(), domain, s, r) {
+        return failed(s, k);
     }
     does::read_record(c, s, r)
 }
@@ -111,10 +118,9 @@ pub fn update_record(
     requires { ⌜ Able (now table) (now files) s c (length (now «data»)) × (c .instruction ≡ ins.updateRecord) ⌝ }
     ensures { λ d. ⌜ ((format : Format) (bytes : List ℕ) → Unroomed format domain c (now («data» .entry)) s (now (table .entry)) (now (files .entry)) bytes d) ⌝ }
 {
-    let r = card::row_at(table, s.file as usize);
-    let word = checked(UPDATE_RECORD, c, data.len(), domain, s, r);
-    if word != 0 {
-        return failed(s, word);
+    let r = target_row(table, s);
+    if let Checked::Failed(k) = checked(UPDATE_RECORD, c, data.len(), domain, s, r) {
+        return failed(s, k);
     }
     does::update_record(c, s, r)
 }
@@ -133,10 +139,9 @@ pub fn search(
     requires { ⌜ Able (now table) (now files) s c (length (now «data»)) × (c .instruction ≡ ins.search) × (length (now made) ≡ 255) ⌝ }
     ensures { λ d. ⌜ Unroomed format domain c (now («data» .entry)) s (now (table .entry)) (now (files .entry)) (now (made .exit)) d ⌝ }
 {
-    let r = card::row_at(table, s.file as usize);
-    let word = checked(SEARCH, c, data.len(), domain, s, r);
-    if word != 0 {
-        return failed(s, word);
+    let r = target_row(table, s);
+    if let Checked::Failed(k) = checked(SEARCH, c, data.len(), domain, s, r) {
+        return failed(s, k);
     }
     does::search_records(format, c, data, s, r, files, made)
 }
@@ -155,10 +160,9 @@ pub fn increase(
     requires { ⌜ Able (now table) (now files) s c (length (now «data»)) × (c .instruction ≡ ins.increase) × (length (now made) ≡ 255) ⌝ }
     ensures { λ d. ⌜ Unroomed format domain c (now («data» .entry)) s (now (table .entry)) (now (files .entry)) (now (made .exit)) d ⌝ }
 {
-    let r = card::row_at(table, s.file as usize);
-    let word = checked(INCREASE, c, data.len(), domain, s, r);
-    if word != 0 {
-        return failed(s, word);
+    let r = target_row(table, s);
+    if let Checked::Failed(k) = checked(INCREASE, c, data.len(), domain, s, r) {
+        return failed(s, k);
     }
     does::increase(format, data, s, r, files, made)
 }
@@ -175,10 +179,9 @@ pub fn deactivate(
     requires { ⌜ Able (now table) (now files) s c (length (now «data»)) × (c .instruction ≡ ins.deactivate) ⌝ }
     ensures { λ d. ⌜ ((format : Format) (bytes : List ℕ) → Unroomed format domain c (now («data» .entry)) s (now (table .entry)) (now (files .entry)) bytes d) ⌝ }
 {
-    let r = card::row_at(table, s.file as usize);
-    let word = checked(DEACTIVATE, c, data.len(), domain, s, r);
-    if word != 0 {
-        return failed(s, word);
+    let r = target_row(table, s);
+    if let Checked::Failed(k) = checked(DEACTIVATE, c, data.len(), domain, s, r) {
+        return failed(s, k);
     }
     does::switch(card::DEACTIVATED, s)
 }
@@ -195,10 +198,9 @@ pub fn activate(
     requires { ⌜ Able (now table) (now files) s c (length (now «data»)) × (c .instruction ≡ ins.activate) ⌝ }
     ensures { λ d. ⌜ ((format : Format) (bytes : List ℕ) → Unroomed format domain c (now («data» .entry)) s (now (table .entry)) (now (files .entry)) bytes d) ⌝ }
 {
-    let r = card::row_at(table, s.file as usize);
-    let word = checked(ACTIVATE, c, data.len(), domain, s, r);
-    if word != 0 {
-        return failed(s, word);
+    let r = target_row(table, s);
+    if let Checked::Failed(k) = checked(ACTIVATE, c, data.len(), domain, s, r) {
+        return failed(s, k);
     }
     does::switch(card::ACTIVATED, s)
 }

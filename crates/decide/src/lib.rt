@@ -2,11 +2,14 @@
 mod checks;
 mod file;
 
-use crate::checks::formal_word;
+use crate::checks::formal_check;
 use crate::checks::path_length_fits;
+use crate::checks::unknown_check;
 use card::tree::Found;
 use command::Command;
 use command::Format;
+use command::checks::Check;
+use command::checks::Checked;
 use command::instruction::ACTIVATE;
 use command::instruction::DEACTIVATE;
 use command::instruction::GET_RESPONSE;
@@ -34,7 +37,7 @@ ghost use Rattle.session.specs.Fcp.{FcpFits};
 ghost use Rattle.session.specs.Select.{find, rowFound};
 ghost use Rattle.command.specs.Instructions as ins;
 ghost use Rattle.plan.specs.Plans.{Situation};
-ghost use Rattle.decide.specs.Order as checks-spec;
+ghost use Rattle.decide.specs.Order.{selectChecks};
 ghost use Rattle.decide.specs.Fails.{firstFailing};
 ghost use Rattle.decide.specs.Decisions.{situation, decided, planned};
 ghost use Rattle.plan.specs.Promised.{writesOf, planOf, Fits, Brief};
@@ -46,11 +49,11 @@ fn get_response(c: Command, s: Standing) -> Decision
 {
     let valid = s.valid as usize;
     let kept = s.kept as usize;
-    if valid < 1 {
-        return failed(s, 0x6985);
+    if valid == 0 {
+        return failed(s, Check::NothingWaits);
     }
     if valid < c.p3 {
-        return failed(s, 0x6700);
+        return failed(s, Check::MoreThanWaits);
     }
     if c.p3 == 0 {
         return waited(s, kept, valid);
@@ -68,10 +71,10 @@ fn decide_select(
     made: &mut [u8],
 ) -> Decision
     requires { ⌜ (length (now made) ≡ 255) × (c .instruction ≡ ins.select) × ((e : ℕ) → find (now table) (s .root) (s .directory) (c .p1) (now «data») ≡ Found.At e → (e < entries (now table)) × (e < 256) × FcpFits (rowOf (now table) e)) × (s .root < entries (now table)) × (s .directory < entries (now table)) × ParentsInside (now table) ⌝ }
-    ensures { λ d. ⌜ ((w : Situation) → w .format ≡ format → w .command ≡ c → w .«data» ≡ now («data» .entry) → w .session ≡ s → w .found ≡ find (now (table .entry)) (s .root) (s .directory) (c .p1) (now («data» .entry)) → w .row ≡ rowFound (now (table .entry)) (find (now (table .entry)) (s .root) (s .directory) (c .p1) (now («data» .entry))) → planOf d (now («data» .entry)) (now (made .exit)) ≡ decided w (firstFailing w checks-spec.selectChecks)) × (d .change ≡ Change.Nothing) ⌝ }
+    ensures { λ d. ⌜ ((w : Situation) → w .format ≡ format → w .command ≡ c → w .«data» ≡ now («data» .entry) → w .session ≡ s → w .found ≡ find (now (table .entry)) (s .root) (s .directory) (c .p1) (now («data» .entry)) → w .row ≡ rowFound (now (table .entry)) (find (now (table .entry)) (s .root) (s .directory) (c .p1) (now («data» .entry))) → planOf d (now («data» .entry)) (now (made .exit)) ≡ decided w (firstFailing w selectChecks)) × (d .change ≡ Change.Nothing) ⌝ }
 {
     if !path_length_fits(c.p1, data.len()) {
-        return failed(s, 0x6700);
+        return failed(s, Check::WrongPathLength);
     }
     let Found::At(e) = session::select::find(
         table,
@@ -80,7 +83,7 @@ fn decide_select(
         c.p1,
         data,
     ) else {
-        return failed(s, 0x6A82);
+        return failed(s, Check::NotFound);
     };
     select_entry(format, s, c.p2, e, card::row_at(table, e), made)
 }
@@ -106,7 +109,7 @@ fn with_room(d: Decision, s: Standing, lc: usize, used: usize, room: usize) -> D
 {
     let change = d.change;
     if room < used + cost_of(change, lc) {
-        return failed(s, 0x6581);
+        return failed(s, Check::JournalFull);
     }
     d
 }
@@ -129,16 +132,14 @@ pub fn decide(
     let i = c.instruction;
     let lc = data.len();
     if i == SELECT {
-        let word = formal_word(SELECT, c, lc, domain);
-        if word != 0 {
-            return failed(s, word);
+        if let Checked::Failed(k) = formal_check(SELECT, c, lc, domain) {
+            return failed(s, k);
         }
         return decide_select(format, c, data, s, table, made);
     }
     if i == GET_RESPONSE {
-        let word = formal_word(GET_RESPONSE, c, lc, domain);
-        if word != 0 {
-            return failed(s, word);
+        if let Checked::Failed(k) = formal_check(GET_RESPONSE, c, lc, domain) {
+            return failed(s, k);
         }
         return get_response(c, s);
     }
@@ -176,5 +177,5 @@ pub fn decide(
         let d = file::activate(domain, c, data, s, table, files);
         return with_room(d, s, lc, used, room);
     }
-    failed(s, formal_word(i, c, lc, domain))
+    failed(s, unknown_check(c))
 }

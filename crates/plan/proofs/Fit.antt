@@ -28,6 +28,8 @@ use Rattle.session.proofs.Template.{fcp-short}
 use Rattle.command.specs.declared.Format.{Format}
 use Rattle.command.specs.declared.Format.the-variants.{Compact, Expanded}
 use Rattle.command.specs.declared.Command.{Command}
+use Rattle.command.specs.declared.checks.Check.{Check}
+use Rattle.command.specs.declared.checks.Check.the-variants.{NotFound}
 use Rattle.command.specs.Promised.{OutcomeFits}
 use Rattle.plan.specs.Ends.{Plan, failed, done, handed, produced}
 use Rattle.plan.specs.Files.{fileAt, numberAfter, sum}
@@ -49,9 +51,9 @@ most-read Expanded = omega arith
 
 -- the ways in which a plan ends
 module _ (card : Card) (c : Command) (s : Standing) (good : Good (card .table) s) where
-  pub fit-failed : (word : ℕ) → Fit card c (failed s word)
+  pub fit-failed : (k : Check) → Fit card c (failed s k)
   unfolding failed OutcomeFits
-  fit-failed word = record { forms = tt; good = good; made = omega arith; outcome = λ b. tt }
+  fit-failed k = record { forms = tt; good = good; made = omega arith; outcome = λ b. tt }
 
   fit-done : (word : ℕ) (ws : List Write) → AllForms ws card → Fit card c (done s word ws)
   unfolding done OutcomeFits
@@ -85,7 +87,7 @@ module _ (card : Card) (sound : soundTable (card .table) (card .files) ≡ true)
   pub fit-select : (format : Format) (p1 p2 : ℕ) («data» : List ℕ) (found : Found) → find (card .table) (s .root) (s .directory) p1 «data» ≡ found → Fit card c (select format s p2 (rowFound (card .table) found) found)
   unfolding select rowFound
   fit-select format p1 p2 «data» (At e) f = entry-selected format p2 e (find-belongs (card .table) (card .files) sound s good p1 «data» e f)
-  fit-select format p1 p2 «data» Nothing f = fit-failed card c s good 0x6A82
+  fit-select format p1 p2 «data» Nothing f = fit-failed card c s good NotFound
 
   -- on the current file
   module _ (some : 1 ≤ s .file) where

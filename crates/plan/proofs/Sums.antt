@@ -8,8 +8,8 @@ use native.Mathlib.Decide.{decLt}
 use native.Mathlib.Omega.{arith}
 use lib.ListN.{length, take, length-append}
 use lib.Seq.{take-at}
-use lib.Dec.{ltb}
-use borrow.Author.Tests.{lt-ltb, le-ltb}
+use lib.Dec.{leb}
+use borrow.Author.Tests.{le-leb, lt-leb}
 use Rattle.octets.specs.Bytes.{part, value, bytesOf, overwrite}
 use Rattle.octets.proofs.Picks.{pick-true, pick-false}
 use Rattle.octets.proofs.Writes.{part-lent, lent-part, part-length, write-two}
@@ -19,18 +19,18 @@ use Rattle.card.specs.Records.{recordOffset}
 use Rattle.session.specs.declared.Standing.{Standing}
 use Rattle.command.specs.Instructions as ins
 use Rattle.plan.specs.Ends.{Plan, failed}
-use Rattle.plan.specs.Files.{File, recordBytes, sum, writeIn, newRecord, sumFits}
-use Rattle.command.specs.Checks.{checkWord}
+use Rattle.plan.specs.Files.{File, recordBytes, sum, writeIn, newRecord, sumTooLong}
+use Rattle.command.specs.declared.checks.Check.the-variants.{SumTooLong}
 use Rattle.plan.specs.declared.Change.the-variants.{SumRecord}
 use Rattle.plan.specs.Promised.{recordWrites, writesOf, newestOf, summed}
 
 -- a sum and what its carry tells
 module _ (n m : ℕ) where
-  sum-long : (n / m ≡ 0 → ⊥) → ltb n m ≡ false
-  sum-long z = elim (decLt n m) [ yes l ↦ absurd (z (div-eq-of-lt l)) | no g ↦ le-ltb n m (omega arith) ]
+  sum-long : (n / m ≡ 0 → ⊥) → leb m n ≡ true
+  sum-long z = elim (decLt n m) [ yes l ↦ absurd (z (div-eq-of-lt l)) | no g ↦ le-leb m n (omega arith) ]
 
-  sum-short : 0 < m → n / m ≡ 0 → ltb n m ≡ true
-  sum-short h e = lt-ltb n m (let l = rw e at (lt-div-mul-add {a = n} h) in omega arith)
+  sum-short : 0 < m → n / m ≡ 0 → leb m n ≡ false
+  sum-short h e = lt-leb m n (let l = rw e at (lt-div-mul-add {a = n} h) in omega arith)
 
 -- record 1 of a file, as it is lent: its place in the file is given
 abbrev pub first : List ℕ → Row → ℕ → List ℕ
@@ -65,13 +65,13 @@ module _ {files : List ℕ} {s : Standing} {r : Row} {off : ℕ} {f : File} (h :
     carried : carry ≡ sum (f .row) (f .content) «data» / 256 ^ f .row .«record»
     carried = e ∙ (λ i. first-sum i / 256 ^ width i)
 
-    pub sum-fails : (carry ≡ 0 → ⊥) → (plan : Plan) → failed s 0x9850 ≡ summed ins.increase f «data» s plan
-    unfolding summed sumFits checkWord
-    sum-fails z plan = sym (pick-false _ _ _ (sum-long _ (256 ^ f .row .«record») (λ q. z (carried ∙ q))))
+    pub sum-fails : (carry ≡ 0 → ⊥) → (plan : Plan) → failed s SumTooLong ≡ summed ins.increase f «data» s plan
+    unfolding summed sumTooLong
+    sum-fails z plan = sym (pick-true _ _ _ (sum-long _ (256 ^ f .row .«record») (λ q. z (carried ∙ q))))
 
     pub sum-done : carry ≡ 0 → {p plan : Plan} → p ≡ plan → p ≡ summed ins.increase f «data» s plan
-    unfolding summed sumFits
-    sum-done z q = q ∙ sym (pick-true _ _ _ (sum-short _ (256 ^ f .row .«record») (one-le-pow (f .row .«record») 256 (omega arith)) (sym carried ∙ z)))
+    unfolding summed sumTooLong
+    sum-done z q = q ∙ sym (pick-false _ _ _ (sum-short _ (256 ^ f .row .«record») (one-le-pow (f .row .«record») 256 (omega arith)) (sym carried ∙ z)))
 
   -- the new record
   abbrev new : List ℕ

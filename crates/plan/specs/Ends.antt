@@ -7,6 +7,7 @@ use Rattle.session.specs.declared.Standing.{Standing}
 use Rattle.session.specs.Session.{waits, dropped}
 use Rattle.command.specs.declared.Format.{Format}
 use Rattle.command.specs.declared.Format.the-variants.{Compact, Expanded}
+use Rattle.command.specs.declared.checks.Check.{Check}
 use Rattle.command.specs.declared.Outcome.{Outcome}
 use Rattle.command.specs.declared.Outcome.the-variants.{Well, FromFiles, FromWaiting, Error}
 use Rattle.command.specs.Outcomes.{bytesWait}
@@ -18,9 +19,9 @@ pub record Plan : Type 0 where
   pub made : List ℕ
   pub writes : List Write
 
--- "or with an error word, changing nothing"
-unfoldable pub failed : Standing → ℕ → Plan
-failed s word = record { session = s; outcome = Error word; made = []; writes = [] }
+-- "or with an error word, changing nothing": the word of a check that failed
+unfoldable pub failed : Standing → Check → Plan
+failed s k = record { session = s; outcome = Error k; made = []; writes = [] }
 
 -- well, with a word and no data; what waited is dropped
 unfoldable pub done : Standing → ℕ → List Write → Plan

@@ -1,6 +1,6 @@
 -- What a file command may see, and the records that it names.
 use Prim.Native.Nat.{ℕ, zero, suc, _+_, _-_, _*_, _^_}
-use mathlib.Core.Bool.{Bool, _&&_, not, _||_}
+use mathlib.Core.Bool.{Bool, _&&_}
 use mathlib.Core.List.{List, [], _∷_, _++_}
 use lib.Dec.{leb, ltb, eqb}
 use Rattle.octets.specs.Choice.{pick}
@@ -11,6 +11,7 @@ use Rattle.card.specs.Sound.{recordCount}
 use Rattle.card.specs.Records.{recordOffset, oldestPlace}
 use Rattle.journal.specs.Entries.{usedBytes, room}
 use Rattle.journal.specs.Changes.{Write, fileMemory, tableMemory}
+use Rattle.session.specs.declared.Standing.{Standing}
 use Rattle.session.specs.Session.{none}
 use Rattle.command.specs.Instructions as ins
 
@@ -21,6 +22,10 @@ pub record File : Type 0 where
   pub content : List ℕ
   pub used : ℕ
   pub room : ℕ
+
+-- the entry that a command works on
+abbrev pub target : Standing → ℕ
+target s = s .file
 
 -- what is seen of an entry of a card
 unfoldable pub fileAt : Card → ℕ → File
@@ -120,6 +125,6 @@ newRecord f new =
     ∷ record { memory = tableMemory; place = placeOfNewest (f .entry); new = oldestPlace (f .row) ∷ [] }
     ∷ []
 
--- "sum too long": it has no room in the record's bytes
-unfoldable pub sumFits : ℕ → File → List ℕ → Bool
-sumFits i f «data» = not (eqb i ins.increase) || ltb (sum (f .row) (f .content) «data») (256 ^ f .row .«record»)
+-- "sum too long 9850": it has no room in the record's bytes
+unfoldable pub sumTooLong : ℕ → File → List ℕ → Bool
+sumTooLong i f «data» = eqb i ins.increase && leb (256 ^ f .row .«record») (sum (f .row) (f .content) «data»)

@@ -16,6 +16,7 @@ use Rattle.session.specs.Fcp.{fcp}
 use Rattle.command.specs.declared.Format.{Format}
 use Rattle.command.specs.declared.Format.the-variants.{Compact, Expanded}
 use Rattle.command.specs.declared.Command.{Command}
+use Rattle.command.specs.declared.checks.Check.the-variants.{NotFound}
 use Rattle.command.specs.declared.Outcome.the-variants.{FromWaiting}
 use Rattle.command.specs.Instructions as ins
 use Rattle.command.specs.Instructions.{noData}
@@ -48,7 +49,7 @@ selectEntry format s p2 e r =
 
 unfoldable pub select : Format → Standing → ℕ → Row → Found → Plan
 select format s p2 r (At e) = selectEntry format s p2 e r
-select format s p2 r Nothing = failed s 0x6A82
+select format s p2 r Nothing = failed s NotFound
 
 -- "offset P1P2"
 unfoldable pub offsetOf : Command → ℕ

@@ -11,13 +11,13 @@ use Rattle.card.specs.Records.{recordOffset, oldestPlace}
 use Rattle.journal.specs.Changes.{Write, fileMemory, tableMemory}
 use Rattle.session.specs.declared.Standing.{Standing}
 use Rattle.command.specs.declared.Command.{Command}
-use Rattle.command.specs.Checks.{sumTooLong, checkWord}
+use Rattle.command.specs.declared.checks.Check.the-variants.{SumTooLong}
 use Rattle.plan.specs.declared.NewRecord.{NewRecord}
 use Rattle.plan.specs.declared.Change.{Change}
 use Rattle.plan.specs.declared.Change.the-variants.{Nothing, Content, DataRecord, SumRecord, TableByte}
 use Rattle.plan.specs.declared.Decision.{Decision}
 use Rattle.plan.specs.Ends.{Plan, failed}
-use Rattle.plan.specs.Files.{File, sumFits}
+use Rattle.plan.specs.Files.{File, sumTooLong}
 use Rattle.plan.specs.Plans.{namedBy}
 
 -- what every record file of a sound table has, over a file memory of so many bytes
@@ -83,7 +83,7 @@ updateChange c s r =
 
 -- a plan behind the check of a file command's sum
 unfoldable pub summed : ℕ → File → List ℕ → Standing → Plan → Plan
-summed i f «data» s plan = pick (sumFits i f «data») plan (failed s (checkWord sumTooLong))
+summed i f «data» s plan = pick (sumTooLong i f «data») (failed s SumTooLong) plan
 
 -- a sum has no more bytes than can wait
 unfoldable pub Brief : Change → Type 0

@@ -8,9 +8,14 @@ use crate::handed;
 use crate::produced;
 use crate::records::number_after;
 use crate::records::record_of;
+use crate::target;
 use card::Row;
 use command::Command;
 use command::Format;
+use command::checks::Check;
+use command::ends::END_OF_DATA;
+use command::ends::NORMAL;
+use command::ends::SELECTED_DEACTIVATED;
 use command::instruction::NO_DATA;
 use session::Standing;
 ghost use mathlib.Core.Path.{_≡_};
@@ -32,9 +37,9 @@ fn select_word(r: Row) -> usize
     ensures { λ w. ⌜ w ≡ plans.selectWord r ⌝ }
 {
     if r.state == card::DEACTIVATED {
-        return 0x6283;
+        return SELECTED_DEACTIVATED;
     }
-    0x9000
+    NORMAL
 }
 
 // SELECT of an entry with its row.
@@ -87,12 +92,12 @@ pub fn read_binary(format: Format, c: Command, s: Standing, r: Row) -> Decision
     let place = r.start + offset;
     let left = r.size - offset;
     if c.p3 == 0 {
-        return handed(s, 0x9000, place, least(left, most_read(format)));
+        return handed(s, NORMAL, place, least(left, most_read(format)));
     }
     if c.p3 <= left {
-        return handed(s, 0x9000, place, c.p3);
+        return handed(s, NORMAL, place, c.p3);
     }
-    handed(s, 0x6282, place, left)
+    handed(s, END_OF_DATA, place, left)
 }
 
 // UPDATE BINARY.
@@ -101,7 +106,7 @@ pub fn update_binary(c: Command, s: Standing, r: Row) -> Decision
     ensures { λ d. ⌜ ((«data» bytes : List ℕ) (f : File) → f .row ≡ r → planOf d «data» bytes ≡ plans.updateBinary c «data» s f) × (d .change ≡ Change.Content (r .start) (r .size) (plans.offsetOf c)) ⌝ }
 {
     let offset = c.p1 * 256 + c.p2;
-    done(s, 0x9000, Change::Content(r.start, r.size, offset))
+    done(s, NORMAL, Change::Content(r.start, r.size, offset))
 }
 
 // READ RECORD.
@@ -113,7 +118,7 @@ pub fn read_record(c: Command, s: Standing, r: Row) -> Decision
     let number = record_of(c, current, r);
     let place = r.start + card::records::record_offset(r, number);
     let next = session::at_record(s, number_after(c.p2, current, number));
-    handed(next, 0x9000, place, r.record)
+    handed(next, NORMAL, place, r.record)
 }
 
 // The new record of a cyclic file.
@@ -137,17 +142,13 @@ pub fn update_record(c: Command, s: Standing, r: Row) -> Decision
 {
     if r.kind == card::CYCLIC {
         let next = session::at_record(s, 1);
-        return done(
-            next,
-            0x9000,
-            Change::DataRecord(new_record(s.file as usize, r)),
-        );
+        return done(next, NORMAL, Change::DataRecord(new_record(target(s), r)));
     }
     let current = s.number as usize;
     let number = record_of(c, current, r);
     let offset = card::records::record_offset(r, number);
     let next = session::at_record(s, number_after(c.p2, current, number));
-    done(next, 0x9000, Change::Content(r.start, r.size, offset))
+    done(next, NORMAL, Change::Content(r.start, r.size, offset))
 }
 
 // SEARCH.
@@ -166,10 +167,10 @@ pub fn search_records(
     let number = record_of(c, s.number as usize, r);
     let n = crate::search::search(files, r, c.p2, number, data, made);
     if n == 0 {
-        return done(s, 0x6282, Change::Nothing);
+        return done(s, END_OF_DATA, Change::Nothing);
     }
     let next = session::at_record(s, octets::wide(made[0]));
-    produced(format, next, n, 0x9000, Change::Nothing)
+    produced(format, next, n, NORMAL, Change::Nothing)
 }
 
 // INCREASE: it makes the sum and then the added bytes.
@@ -189,7 +190,7 @@ pub fn increase(
     let end = at + record;
     let carry = crate::sum::add(&files[at..end], data, made);
     if carry != 0 {
-        return failed(s, 0x9850);
+        return failed(s, Check::SumTooLong);
     }
     octets::copy(made, record, data);
     let next = session::at_record(s, 1);
@@ -197,8 +198,8 @@ pub fn increase(
         format,
         next,
         record + data.len(),
-        0x9000,
-        Change::SumRecord(new_record(s.file as usize, r)),
+        NORMAL,
+        Change::SumRecord(new_record(target(s), r)),
     )
 }
 
@@ -209,10 +210,7 @@ pub fn switch(state: usize, s: Standing) -> Decision
 {
     done(
         s,
-        0x9000,
-        Change::TableByte(
-            card::ENTRY_SIZE * (s.file as usize) + card::STATE_BYTE,
-            state,
-        ),
+        NORMAL,
+        Change::TableByte(card::ENTRY_SIZE * target(s) + card::STATE_BYTE, state),
     )
 }

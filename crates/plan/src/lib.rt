@@ -6,6 +6,8 @@ pub mod sum;
 
 use command::Format;
 use command::Outcome;
+use command::checks::Check;
+use command::ends::BYTES_WAIT;
 use session::Standing;
 ghost use mathlib.Core.Path.{_≡_};
 ghost use mathlib.Core.List.{List};
@@ -13,6 +15,7 @@ ghost use Prim.Native.Nat.{ℕ, _≤_, _<_};
 ghost use lib.ListN.{length};
 ghost use Rattle.octets.specs.Bytes.{overwrite};
 ghost use Rattle.plan.specs.Ends as spec;
+ghost use Rattle.plan.specs.Files as files-spec;
 ghost use Rattle.plan.specs.Promised.{writesOf, planOf};
 
 // A new record of a cyclic file: the file's entry number, start, size and record length, and the oldest place.
@@ -42,13 +45,20 @@ pub struct Decision {
     pub change: Change,
 }
 
-// It ends with an error word, changing nothing.
-pub fn failed(s: Standing, word: usize) -> Decision
-    ensures { λ d. ⌜ ((«data» bytes : List ℕ) → planOf d «data» bytes ≡ spec.failed s word) × (d .change ≡ Change.Nothing) ⌝ }
+// The entry number of the file that a command works on.
+pub fn target(s: Standing) -> usize
+    ensures { λ e. ⌜ e ≡ files-spec.target s ⌝ }
+{
+    s.file as usize
+}
+
+// It ends with the word of a check that failed, changing nothing.
+pub fn failed(s: Standing, k: Check) -> Decision
+    ensures { λ d. ⌜ ((«data» bytes : List ℕ) → planOf d «data» bytes ≡ spec.failed s k) × (d .change ≡ Change.Nothing) ⌝ }
 {
     Decision {
         session: s,
-        outcome: Outcome::Error(word),
+        outcome: Outcome::Error(k),
         made: 0,
         change: Change::Nothing,
     }
@@ -101,7 +111,7 @@ pub fn produced(format: Format, s: Standing, n: usize, word: usize, change: Chan
         Format::Compact => {
             Decision {
                 session: session::waits(s, n, word),
-                outcome: Outcome::Well(0x6100 + n),
+                outcome: Outcome::Well(BYTES_WAIT + n),
                 made: n as u8,
                 change,
             }

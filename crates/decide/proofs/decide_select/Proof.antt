@@ -8,6 +8,7 @@ use Rattle.octets.proofs.Picks.{told-false, told-true}
 use Rattle.card.specs.declared.tree.Found.the-variants as Found
 use Rattle.session.specs.Select.{find, rowFound}
 use Rattle.command.specs.declared.Command.{Command}
+use Rattle.command.specs.declared.checks.Check.the-variants.{WrongPathLength, NotFound}
 use Rattle.plan.specs.Ends.{failed}
 use Rattle.plan.specs.Plans.{Situation, selectEntry}
 use Rattle.decide.specs.Fails.{pathLengthFits}
@@ -25,7 +26,7 @@ failed-requires c κs = search needs
 returns : tie.Need-returns
 returns c = (
   λ w f k d s g t.
-      c .failed .ensures .0 (c .before .before .before .before .before .before .args .«data» .now) _ ∙ (λ i. failed (sym s i) 0x6700)
+      c .failed .ensures .0 (c .before .before .before .before .before .before .args .«data» .now) _ ∙ (λ i. failed (sym s i) WrongPathLength)
       ∙ select-wrong w ((λ i. pathLengthFits (k i .p1) (length (d i))) ∙ told-false (c .before .before .path-length-fits .ensures) (c .before .if1 .taken)),
   c .failed .ensures .1,
 )
@@ -65,7 +66,7 @@ failed-requires-2 c κs = search needs
 returns-2 : tie.Need-returns-2
 returns-2 c = (
   λ w f k d s g t.
-      c .failed2 .ensures .0 (start (c .before .before .before .before .before .before) .args .«data» .now) _ ∙ (λ i. failed (sym s i) 0x6A82)
+      c .failed2 .ensures .0 (start (c .before .before .before .before .before .before) .args .«data» .now) _ ∙ (λ i. failed (sym s i) NotFound)
       ∙ select-lost w (fitting-so (c .before .before .before .before .before .before) w k d) (g ∙ sym (c .before .before .before .find .ensures) ∙ c .before .enum-told .given .1),
   c .failed2 .ensures .1,
 )

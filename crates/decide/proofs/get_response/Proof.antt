@@ -1,8 +1,7 @@
 -- `decide::get_response` meets its contract: each arm is the one that the definition picks. Assumes nothing.
-use borrow.Author.Tests.{eq-eqb, ne-eqb, le-leb, lt-leb}
+use borrow.Author.Tests.{eq-eqb, ne-eqb, lt-ltb, le-ltb}
 use Rattle.octets.specs.Choice.{pick}
 use Rattle.plan.specs.Plans.{getResponse}
-use Rattle.command.specs.Checks.{checkWord}
 use Rattle.plan.specs.Promised.{planOf, writesOf}
 use Rattle.decide.specs.Promised.{responded}
 use borrow.Author.Needs.{needs}
@@ -19,29 +18,29 @@ failed-requires : tie.Need-failed-requires
 failed-requires c κs = search needs
 
 returns : tie.Need-returns
-unfolding responded checkWord pick
-returns c = (λ «data» bytes. rw (lt-leb _ _ (c .before .if1 .taken)) (c .failed .ensures .0 «data» bytes), c .failed .ensures .1)
+unfolding responded pick
+returns c = (λ «data» bytes. rw (eq-eqb _ _ (c .before .if1 .taken)) (c .failed .ensures .0 «data» bytes), c .failed .ensures .1)
 
 failed-requires-2 : tie.Need-failed-requires-2
 failed-requires-2 c κs = search needs
 
 returns-2 : tie.Need-returns-2
-unfolding responded checkWord pick
-returns-2 c = (λ «data» bytes. rw (le-leb _ _ (c .before .before .before .if1 .left), lt-leb _ _ (c .before .if2 .taken)) (c .failed2 .ensures .0 «data» bytes), c .failed2 .ensures .1)
+unfolding responded pick
+returns-2 c = (λ «data» bytes. rw (ne-eqb _ _ (c .before .before .before .if1 .left), lt-ltb _ _ (c .before .if2 .taken)) (c .failed2 .ensures .0 «data» bytes), c .failed2 .ensures .1)
 
 waited-requires : tie.Need-waited-requires
 waited-requires c κs = search needs
 
 returns-3 : tie.Need-returns-3
 unfolding planOf writesOf responded getResponse pick
-returns-3 c = (λ «data» bytes. rw (le-leb _ _ (c .before .before .before .before .before .if1 .left), le-leb _ _ (c .before .before .before .if2 .left), eq-eqb _ _ (c .before .if3 .taken)) (rw (c .waited .ensures .0, c .waited .ensures .1, c .waited .ensures .2, c .waited .ensures .3)), c .waited .ensures .3)
+returns-3 c = (λ «data» bytes. rw (ne-eqb _ _ (c .before .before .before .before .before .if1 .left), le-ltb _ _ (c .before .before .before .if2 .left), eq-eqb _ _ (c .before .if3 .taken)) (rw (c .waited .ensures .0, c .waited .ensures .1, c .waited .ensures .2, c .waited .ensures .3)), c .waited .ensures .3)
 
 waited-requires-2 : tie.Need-waited-requires-2
 waited-requires-2 c κs = search needs
 
 returns-4 : tie.Need-returns-4
 unfolding planOf writesOf responded getResponse pick
-returns-4 c = (λ «data» bytes. rw (le-leb _ _ (c .before .before .before .before .before .if1 .left), le-leb _ _ (c .before .before .before .if2 .left), ne-eqb _ _ (c .before .if3 .left)) (rw (c .waited2 .ensures .0, c .waited2 .ensures .1, c .waited2 .ensures .2, c .waited2 .ensures .3)), c .waited2 .ensures .3)
+returns-4 c = (λ «data» bytes. rw (ne-eqb _ _ (c .before .before .before .before .before .if1 .left), le-ltb _ _ (c .before .before .before .if2 .left), ne-eqb _ _ (c .before .if3 .left)) (rw (c .waited2 .ensures .0, c .waited2 .ensures .1, c .waited2 .ensures .2, c .waited2 .ensures .3)), c .waited2 .ensures .3)
 
 pub get-response-spec : {M : Type 1} → statement M
 get-response-spec =

@@ -1,4 +1,4 @@
--- `command::checks::kind_fits` meets its contract: each arm is the one that the definition picks. Assumes nothing.
+-- `decide::checks::kind_fits` meets its contract: each arm is the one that the definition picks. Assumes nothing.
 use Rattle.octets.proofs.Picks.{choices}
 use Rattle.decide.specs.Fails.{kindFits}
 use borrow.Author.Needs.{needs}

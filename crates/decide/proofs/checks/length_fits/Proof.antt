@@ -1,4 +1,4 @@
--- `command::checks::length_fits` meets its contract: each arm is the one that the definition picks. Assumes nothing.
+-- `decide::checks::length_fits` meets its contract: each arm is the one that the definition picks. Assumes nothing.
 use Rattle.octets.proofs.Picks.{choices}
 use Rattle.decide.specs.Fails.{lengthFits}
 use borrow.Author.Needs.{needs}

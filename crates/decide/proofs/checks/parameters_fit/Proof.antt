@@ -1,4 +1,4 @@
--- `command::checks::parameters_fit` meets its contract: each arm is the one that the definition picks. Assumes nothing.
+-- `decide::checks::parameters_fit` meets its contract: each arm is the one that the definition picks. Assumes nothing.
 use Rattle.octets.proofs.Picks.{choices}
 use Rattle.decide.specs.Fails.{parametersFit}
 use borrow.Author.Tests.{ne-eqb}

@@ -1,4 +1,4 @@
--- `command::checks::path_length_fits` meets its contract: each arm is the one that the definition picks. Assumes nothing.
+-- `decide::checks::path_length_fits` meets its contract: each arm is the one that the definition picks. Assumes nothing.
 use Rattle.octets.proofs.Picks.{picks}
 use Rattle.decide.specs.Fails.{pathLengthFits}
 use Rattle.decide.proofs.checks.path_length_fits.Statement.{statement}

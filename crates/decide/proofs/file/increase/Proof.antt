@@ -1,34 +1,56 @@
--- `decide::file::increase` meets its contract: the word of the first check that fails, or what INCREASE does. Assumes nothing.
+-- `decide::file::increase` meets its contract: the first check that fails, or what INCREASE does. Assumes nothing.
 use mathlib.Core.Path.{refl, sym}
-use borrow.Author.Needs.{needs}
 use Rattle.octets.specs.Choice.{pick}
 use Rattle.plan.specs.Files.{fileAt}
 use Rattle.plan.specs.Plans.{doneBy}
 use Rattle.decide.specs.Decisions.{situation}
-use Rattle.decide.proofs.Passed.{to-sum, entry-inside, newest-inside, to-check, check-failed, check-passed, check-done}
+use Rattle.decide.proofs.Passed.{Known, to-sum, entry-inside, newest-inside, to-check, check-failed, check-passed, check-done}
+use lib.ListN.{length}
+use borrow.Author.Needs.{needs}
 use Rattle.decide.proofs.file.increase.Statement.{statement}
 use Rattle.decide.proofs.file.increase.Tie as tie
 
-cast-row-at : tie.Need-cast-row-at
-cast-row-at c = search needs
+-- where the file's row was read from, and where all checks are passed
+abbrev start : tie.After-target-row → tie.Start
+start c = c .before .before .before .before .before
 
-row-at-requires : tie.Need-row-at-requires
-row-at-requires c κs = entry-inside (c .before .before .before .before .before .pre .0)
+abbrev row-at : tie.After-enum-told → tie.After-target-row
+row-at c = c .before .before .before
+
+target-row-requires : tie.Need-target-row-requires
+target-row-requires c κs = entry-inside (c .before .before .before .before .pre .0)
 
 checked-requires : tie.Need-checked-requires
-checked-requires c κs = let p = c .before .before .before .before .before .before .pre in to-check (p .0) (c .row-at .ensures .0) (p .1)
+checked-requires c κs = let p = start c .pre in to-check (p .0) (c .target-row .ensures .0) (p .1)
+
+enum-known-k : tie.Need-enum-known-k
+enum-known-k c = search needs
 
 failed-requires : tie.Need-failed-requires
 failed-requires c κs = search needs
 
 returns : tie.Need-returns
-returns c = check-failed (c .before .before .before .row-at .ensures) (c .before .before .checked .ensures) (c .before .if1 .taken) (c .failed .ensures) _ _
+returns c =
+    let at-k = c .before .before in
+    let at-checked = at-k .before .before in
+    check-failed (at-checked .before .target-row .ensures) (at-checked .checked .ensures) (at-k .k .given .1) (c .failed .ensures) _ _
+
+enum-told : tie.Need-enum-told
+enum-told c = search needs
+
+-- what is known where all checks are passed
+module _ (c : tie.After-enum-told) where
+  abbrev s : tie.Start
+  s = start (row-at c)
+
+  known : Known (length (s .args .files .now)) (s .args .c) (length (s .args .«data» .now)) (s .args .s) (row-at c .target-row .result)
+  known = check-passed (s .args .«data» .now) (row-at c .target-row .ensures) (c .before .before .checked .ensures) (c .enum-told .given .1) (s .pre .0)
 
 increase-requires : tie.Need-increase-requires
 increase-requires c κs =
-    let s = c .before .before .before .before .before .before .before .before .before in
-    let p = s .pre in
-    let n = to-sum (check-passed (s .args .«data» .now) (c .before .before .before .row-at .ensures) (c .before .before .checked .ensures) (c .before .if1 .left) (p .0)) (p .1) in
+    let k = c .before in
+    let p = start (row-at k) .pre in
+    let n = to-sum (known k) (p .1) in
     (n .0, n .1, n .2, p .2)
 
 same-length : tie.Need-same-length
@@ -37,21 +59,24 @@ same-length c = search needs
 returns-2 : tie.Need-returns-2
 unfolding situation fileAt doneBy pick
 returns-2 c =
-    let p = c .before .before .before .before .before .before .before .before .before .before .before .before .pre in
-    let row = sym (c .before .before .before .before .before .before .row-at .ensures .0) in
-    check-done (c .before .before .before .before .before .before .row-at .ensures) (c .before .before .before .before .before .checked .ensures) (c .before .before .before .before .if1 .left) (p .1)
-    (λ journal. c .before .before .increase .ensures .0 _ row refl (rw row))
-    (c .before .before .increase .ensures .1 _ (newest-inside (p .0)))
+    let at-increase = c .before .before in
+    let k = at-increase .before .before in
+    let p = start (row-at k) .pre in
+    let row = sym (row-at k .target-row .ensures .0) in
+    check-done (row-at k .target-row .ensures) (k .before .before .checked .ensures) (k .enum-told .given .1) (p .1)
+    (λ journal. at-increase .increase .ensures .0 _ row refl (rw row))
+    (at-increase .increase .ensures .1 _ (newest-inside (p .0)))
 
 pub increase-spec : {M : Type 1} → statement M
 increase-spec =
     tie.close
     (tie.spec
-    cast-row-at
-    row-at-requires
+    target-row-requires
     checked-requires
+    enum-known-k
     failed-requires
     returns
+    enum-told
     increase-requires
     same-length
     returns-2)

@@ -1,5 +1,5 @@
 -- `plan::does::increase` meets its contract: a sum that fits is the new record, and it is made with the added bytes behind it. Assumes nothing.
-use mathlib.Core.Path.{_≡_, _∙_}
+use mathlib.Core.Path.{_≡_, ap, _∙_}
 use mathlib.Core.List.{_++_}
 use native.Mathlib.Omega.{arith}
 use lib.ListN.{length}
@@ -79,8 +79,8 @@ at-record-requires c κs = search needs
 add-produced : tie.Need-add-produced
 add-produced c = search needs
 
-cast-new-record : tie.Need-cast-new-record
-cast-new-record c = search needs
+target-requires : tie.Need-target-requires
+target-requires c κs = search needs
 
 new-record-requires : tie.Need-new-record-requires
 new-record-requires c κs = search needs
@@ -97,6 +97,7 @@ returns-2 c =
     let k = c .before .before .before .before .before .before .before .before .before .before .before .before .before .before .before in
     let a = start k .args in
     let p = start k .pre in
+    let record-made : c .before .new-record .result ≡ newestOf (a .s .file) (a .r) = c .before .new-record .ensures ∙ ap (λ e. newestOf e (a .r)) (c .before .before .target .ensures) in
     let sum-made = c .before .before .before .before .before .before .before .before .before .before .before .add .ensures in (
       λ f row entry content.
           let h = raised k f row entry content in
@@ -104,9 +105,9 @@ returns-2 c =
           let e = new-bytes h (a .«data» .now) (a .made .now) (p .3) (omega (arith, p .1, p .2)) (sum-made .1) (c .before .before .before .before .before .before .copy .ensures) in
           sum-done h (a .«data» .now) (sum-made .0) (c .before .before .before .before .before .before .before .before .if1 .left)
           (c .produced .ensures .0 (a .«data» .now) _ out (a .made .now) e (new-count h (a .«data» .now))
-          ∙ (λ i. produced (a .format) (c .before .before .before .at-record .ensures i) normal out (writesOf (SumRecord (c .before .new-record .ensures i)) (a .«data» .now) (e i)))
+          ∙ (λ i. produced (a .format) (c .before .before .before .at-record .ensures i) normal out (writesOf (SumRecord (record-made i)) (a .«data» .now) (e i)))
           ∙ (λ i. produced (a .format) (atRecord (a .s) 1) normal out (new-writes h (a .«data» .now) (a .made .now) i))),
-      λ t h. rw (c .produced .ensures .1, c .before .new-record .ensures) (newest-fits t (length (a .files .now)) (a .s .file) (a .r) (p .0) h, omega (arith, p .1)),
+      λ t h. rw (c .produced .ensures .1, record-made) (newest-fits t (length (a .files .now)) (a .s .file) (a .r) (p .0) h, omega (arith, p .1)),
     )
 
 pub increase-spec : {M : Type 1} → statement M
@@ -126,7 +127,7 @@ increase-spec =
     copy-requires
     at-record-requires
     add-produced
-    cast-new-record
+    target-requires
     new-record-requires
     produced-requires
     same-length-2

@@ -6,8 +6,8 @@ use borrow.Author.Needs.{needs}
 use Rattle.plan.proofs.does.switch.Statement.{statement}
 use Rattle.plan.proofs.does.switch.Tie as tie
 
-cast-t3 : tie.Need-cast-t3
-cast-t3 c = search needs
+target-requires : tie.Need-target-requires
+target-requires c κs = search needs
 
 mul-t4 : tie.Need-mul-t4
 mul-t4 c = search needs
@@ -20,7 +20,9 @@ done-requires c κs = search needs
 
 returns : tie.Need-returns
 unfolding switch writesOf
-returns c = (λ «data» bytes f e. c .done .ensures .0 «data» bytes ∙ rw e, c .done .ensures .1)
+returns c =
+    let file = c .before .target .ensures in
+    (λ «data» bytes f e. c .done .ensures .0 «data» bytes ∙ rw (e, file), c .done .ensures .1 ∙ rw file)
 
 pub switch-spec : {M : Type 1} → statement M
-switch-spec = tie.close (tie.spec cast-t3 mul-t4 add-t5 done-requires returns)
+switch-spec = tie.close (tie.spec target-requires mul-t4 add-t5 done-requires returns)

@@ -15,8 +15,8 @@ use Rattle.plan.proofs.does.update_record.Tie as tie
 at-record-requires : tie.Need-at-record-requires
 at-record-requires c κs = search needs
 
-cast-new-record : tie.Need-cast-new-record
-cast-new-record c = search needs
+target-requires : tie.Need-target-requires
+target-requires c κs = search needs
 
 new-record-requires : tie.Need-new-record-requires
 new-record-requires c κs = search needs
@@ -26,7 +26,16 @@ done-requires c κs = search needs
 
 returns : tie.Need-returns
 unfolding updateRecord newRecord writeIn recordWrites writesOf newestOf updateChange pick
-returns c = (λ «data» bytes f e g. c .done .ensures .0 «data» bytes ∙ rw (e, g, eq-eqb _ _ (c .before .before .before .before .if1 .taken), c .before .before .before .at-record .ensures, c .before .new-record .ensures), c .done .ensures .1 ∙ rw (eq-eqb _ _ (c .before .before .before .before .if1 .taken), c .before .new-record .ensures))
+returns c =
+    let at-new = c .before in
+    let at-target = at-new .before in
+    let at-record = at-target .before in
+    let cyclic = eq-eqb _ _ (at-record .before .if1 .taken) in
+    let new = at-new .new-record .ensures in
+    let file = at-target .target .ensures in (
+      λ «data» bytes f e g. c .done .ensures .0 «data» bytes ∙ rw (e, g, cyclic, at-record .at-record .ensures, new, file),
+      c .done .ensures .1 ∙ rw (cyclic, new, file),
+    )
 
 cast-current : tie.Need-cast-current
 cast-current c = search needs
@@ -62,7 +71,7 @@ update-record-spec =
     tie.close
     (tie.spec
     at-record-requires
-    cast-new-record
+    target-requires
     new-record-requires
     done-requires
     returns
