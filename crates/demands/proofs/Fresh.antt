@@ -19,12 +19,13 @@ use Rattle.plan.specs.Ends.{Plan, failed}
 use Rattle.command.specs.Outcomes.{dataOf}
 use Rattle.plan.specs.Plans.{Situation}
 use Rattle.decide.specs.Order.{formalChecks, boundChecks, fileChecks, laterChecks, order}
+use Rattle.command.specs.declared.checks.Check.the-variants.{NoFile}
 use Rattle.command.specs.Checks.{checkWord}
-use Rattle.decide.specs.Fails.{holds, firstFailing}
-use Rattle.decide.specs.Promised.{failWord}
+use Rattle.decide.specs.Fails.{fails, firstFailing}
 use Rattle.step.specs.Steps.{State, started, stepped, carriedOut}
 use Rattle.decide.specs.Decisions.{situation, decided, planned}
-use Rattle.decide.proofs.Plans.{first-behind, formal-none}
+use Rattle.decide.proofs.Passing.{all-pass}
+use Rattle.decide.proofs.Plans.{first-behind}
 use Rattle.compact.specs.Compact as compact
 use Rattle.expanded.specs.Capdu.{capduCommand}
 use Rattle.expanded.specs.Expanded as expanded
@@ -40,15 +41,15 @@ use Rattle.demands.proofs.LawsRefused.{run-done}
 use Rattle.demands.proofs.Commands.{one-only, compact-runs, expanded-runs}
 
 -- no file is current
-no-file : (w : Situation) → WorksOnFile w → w .session .file ≡ 0 → planned w ≡ failed (w .session) 0x6986
-unfolding planned decided order laterChecks fileChecks boundChecks firstFailing failWord holds checkWord pick
+no-file : (w : Situation) → WorksOnFile w → w .session .file ≡ 0 → planned w ≡ failed (w .session) NoFile
+unfolding planned decided order laterChecks fileChecks boundChecks firstFailing fails pick
 no-file w h z =
-    ap (decided w) (first-behind w formalChecks (laterChecks (w .command .instruction)) (formal-none w (ap failWord (sym (h .formal)))))
+    ap (decided w) (first-behind w formalChecks (laterChecks (w .command .instruction)) (all-pass w formalChecks (h .formal)))
     ∙ rw (ne-eqb (w .command .instruction) ins.select (h .notSelect), ne-eqb (w .command .instruction) ins.getResponse (h .notGetResponse), z)
 
 -- the state of a script that was stopped so
 stopped : ℕ → Card → State
-stopped application card = stepped (started application card) (carriedOut (failed (start application) 0x6986) startWaiting card)
+stopped application card = stepped (started application card) (carriedOut (failed (start application) NoFile) startWaiting card)
 
 -- ---- compact
 
@@ -62,7 +63,7 @@ module _ (script : List ℕ) (application domain : ℕ) (card : Card) (r : Read)
       (no-file (situation Compact domain (r .command) (r .«data») (start application) card) works refl)
 
   compact-stops : compact.run script application domain card ≡ stopped application card
-  unfolding statesAfter wordGoesOn stopped stepped carriedOut failed
+  unfolding statesAfter wordGoesOn stopped stepped carriedOut failed checkWord
   compact-stops =
       compact-runs script application domain card .state
       ∙ one-only (commandDone domain) wordGoesOn (started application card) (commandsOf script) r rs first (ap wordGoesOn command-fails)
@@ -70,7 +71,7 @@ module _ (script : List ℕ) (application domain : ℕ) (card : Card) (r : Read)
 
 compact-fresh : (a : Arguments) (c : Card) (r : Read) (rs : List Read) → number (given (running a) c) ≡ 0 → a .format ≡ 0 → commandsOf (a .script) ≡ r ∷ rs
     → WorksOnFile (firstSituation Compact a r c) → given (running a) c ≡ oneCommand c (hex "016986") (a .response)
-unfolding runScript accepted compact.answer oneCommand stopped started stepped carriedOut failed perform dataOf bytes2 hex digit pick formatOf
+unfolding runScript accepted compact.answer oneCommand stopped started stepped carriedOut failed checkWord perform dataOf bytes2 hex digit pick formatOf
 compact-fresh a c r rs ok f first works =
     run-done a c ok
     ∙ rw (f, compact-stops (a .script) (a .application) (a .domain) (withMark c) r rs first works)
@@ -85,11 +86,11 @@ module _ (definite : Bool) (domain application : ℕ) (card : Card) (bytes : Lis
   abbrev plan : Plan
   plan = planned (situation Expanded domain (command .command) (command .«data») (start application) card)
 
-  either-counts : (counts : Bool) → plan ≡ failed (start application) 0x6986
+  either-counts : (counts : Bool) → plan ≡ failed (start application) NoFile
       → let st = stepped (started application card) (carriedOut (limited 0 counts (start application) plan) startWaiting card) in
       let p = answered counts st [] (lastRapdu (st .step) (st .card .files) (st .waiting)) in
       (p .state ≡ stopped application card) × (p .kept ++ p .last ≡ hex "23026986")
-  unfolding limited answered lastRapdu rapdu rapduSize lengthBytes dataOf bytes2 stopped stepped carriedOut failed perform hex digit pick
+  unfolding limited answered lastRapdu rapdu rapduSize lengthBytes dataOf bytes2 stopped stepped carriedOut failed checkWord perform hex digit pick
   either-counts true e = rw e (refl, refl)
   either-counts false e = rw e (refl, refl)
 
@@ -102,13 +103,13 @@ module _ (definite : Bool) (domain application : ℕ) (card : Card) (bytes : Lis
     piece-fails = either-counts (keeps definite (capduCommand bytes .command .case)) (no-file _ works refl)
 
     piece-stops : pieceGoesOn done ≡ false
-    unfolding pieceGoesOn wordGoesOn stopped stepped carriedOut failed
+    unfolding pieceGoesOn wordGoesOn stopped stepped carriedOut failed checkWord
     piece-stops = ap wordGoesOn (piece-fails .0)
 
 -- the answer of a template
 template-answer : (template : Template) (p : Progress) (application : ℕ) (c : Card) (response : List ℕ) → p .state ≡ stopped application (withMark c) → p .kept ++ p .last ≡ hex "23026986"
     → accepted (p .state) (expanded.answer template p) response ≡ oneCommand c (noFile template) response
-unfolding accepted expanded.answer answerBytes definiteAnswer indefiniteAnswer definiteBody countBytes lengthBytes bytes2 oneCommand noFile stopped started stepped carriedOut failed perform hex digit pick
+unfolding accepted expanded.answer answerBytes definiteAnswer indefiniteAnswer definiteBody countBytes lengthBytes bytes2 oneCommand noFile stopped started stepped carriedOut failed checkWord perform hex digit pick
 template-answer (Definite at end) p application c response e f = rw (e, f)
 template-answer (Indefinite at end) p application c response e f = rw (e, f)
 template-answer Missing p application c response e f = rw e

@@ -5,7 +5,6 @@
 -- memory. Here stands what it comes to: the commands that run and their count, the fresh start, the marked cases, the cyclic law.
 use Prim.Native.Nat.{ℕ, _+_, _-_, _*_, _%_, _≤_, _<_}
 use mathlib.Core.List.{List, [], _∷_}
-use mathlib.Core.Option.{none}
 use mathlib.Core.Path.{_≡_}
 use lib.ListN.{length}
 use Rattle.octets.specs.Bytes.{AllBytes, overwrite, zeros}
@@ -19,6 +18,7 @@ use Rattle.tlv.specs.Templates.{templateOf}
 use Rattle.journal.specs.Changes.{withMark}
 use Rattle.session.specs.Session as session
 use Rattle.session.specs.Session.{start}
+use Rattle.command.specs.declared.checks.Checked.the-variants.{Passed}
 use Rattle.command.specs.declared.Format.{Format}
 use Rattle.command.specs.declared.Format.the-variants.{Compact, Expanded}
 use Rattle.command.specs.Instructions as ins
@@ -63,7 +63,7 @@ pub record ExpandedRuns (template : Template) (script : List ℕ) (application d
 pub record WorksOnFile (w : Situation) : Type 0 where
   pub notSelect : w .command .instruction ≡ ins.select → ⊥
   pub notGetResponse : w .command .instruction ≡ ins.getResponse → ⊥
-  pub formal : firstFailing w formalChecks ≡ none
+  pub formal : firstFailing w formalChecks ≡ Passed
 
 -- the situation of a script's first command
 abbrev pub firstSituation : Format → Arguments → Read → Card → Situation

@@ -16,10 +16,12 @@ use Rattle.journal.specs.Sound.{soundCard}
 use Rattle.session.specs.declared.Standing.{Standing}
 use Rattle.session.specs.Session.{mostWaiting}
 use Rattle.session.specs.Good.{Good}
+use Rattle.command.specs.declared.checks.Check.the-variants.{AnswerTooLong}
 use Rattle.command.specs.declared.Format.the-variants.{Expanded}
 use Rattle.command.specs.declared.Command.{Command}
 use Rattle.command.specs.declared.Step.{Step}
 use Rattle.plan.specs.Ends.{Plan, failed}
+use Rattle.command.specs.Checks.{checkWord}
 use Rattle.command.specs.Outcomes.{wordOf, dataCount, goesOn}
 use Rattle.command.specs.Promised.{OutcomeFits}
 use Rattle.step.specs.Steps.{State, stateOf, carriedOut, stepped}
@@ -47,11 +49,11 @@ module _ (kept : ℕ) (counts : Bool) (s : Standing) (few : kept ≤ mostKept) w
     limited-waiting h = on-pick (λ (p : Plan). length (carriedOut p waiting card .waiting) ≡ mostWaiting) _ _ _ (λ over. h) (λ fits. waiting-kept s card sound good Expanded domain c «data» brief waiting h)
 
     -- what is so of an R-APDU that passes, and of one that does not
-    by-rule : (P : Plan → Type 0) → (passes kept counts (dataCount (plan .outcome)) ≡ true → P (failed s 0x6F00)) → (passes kept counts (dataCount (plan .outcome)) ≡ false → P plan) → P left
+    by-rule : (P : Plan → Type 0) → (passes kept counts (dataCount (plan .outcome)) ≡ true → P (failed s AnswerTooLong)) → (passes kept counts (dataCount (plan .outcome)) ≡ false → P plan) → P left
     by-rule P over fits = subst P (sym (by-passing kept counts s few counts plan)) (on-pick P _ _ _ over fits)
 
     limited-kept : counts ≡ true → goesOn (wordOf (left .outcome)) ≡ true → kept + rapduSize (dataCount (left .outcome)) ≤ mostKept
-    unfolding failed
+    unfolding failed checkWord
     limited-kept y =
         by-rule (λ (p : Plan). goesOn (wordOf (p .outcome)) ≡ true → kept + rapduSize (dataCount (p .outcome)) ≤ mostKept)
         (λ over going. absurd (false≢true going))

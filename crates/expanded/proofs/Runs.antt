@@ -15,6 +15,7 @@ use Rattle.tlv.specs.declared.template.Item.{Item}
 use Rattle.tlv.specs.declared.template.Item.the-variants.{Capdu, Bad, End}
 use Rattle.tlv.specs.Templates.{itemAt}
 use Rattle.session.specs.Session.{start, startWaiting}
+use Rattle.command.specs.declared.checks.Check.the-variants.{AnswerTooLong}
 use Rattle.command.specs.declared.Format.the-variants.{Expanded}
 use Rattle.command.specs.Outcomes.{wordOf, goesOn}
 use Rattle.step.specs.Steps.{State, started, stepped}
@@ -53,7 +54,7 @@ module _ (before : Card) where
       let waiting = p .state .waiting in
       let card = p .state .card in
       answered-holds _ _ _ _
-      (on-pick (Carries before s waiting card h) _ _ _ (λ y. failed-holds before s waiting card h 0x6F00) (λ n. command-holds before s waiting card h Expanded domain _ _ (brief capdu (capduCommand capdu .from) b)))
+      (on-pick (Carries before s waiting card h) _ _ _ (λ y. failed-holds before s waiting card h AnswerTooLong) (λ n. command-holds before s waiting card h Expanded domain _ _ (brief capdu (capduCommand capdu .from) b)))
 
   bad-holds : (code : ℕ) (p : Progress) → Kept p → Kept (stepBad code p)
   unfolding stepBad

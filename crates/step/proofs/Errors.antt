@@ -13,6 +13,8 @@ use Rattle.session.specs.declared.Standing.{Standing}
 use Rattle.command.specs.declared.Format.{Format}
 use Rattle.command.specs.declared.Format.the-variants.{Compact, Expanded}
 use Rattle.command.specs.declared.Command.{Command}
+use Rattle.command.specs.declared.checks.Check.{Check}
+use Rattle.command.specs.declared.checks.Check.the-variants.{NotFound}
 use Rattle.command.specs.declared.Outcome.{Outcome}
 use Rattle.command.specs.declared.Outcome.the-variants.{Well, FromFiles, FromWaiting, Error}
 use Rattle.plan.specs.Ends.{Plan, failed, done, handed, produced}
@@ -26,15 +28,15 @@ abbrev isError : Outcome → Bool
 isError (Well word) = false
 isError (FromFiles word place n) = false
 isError (FromWaiting word n) = false
-isError (Error word) = true
+isError (Error k) = true
 
 module _ (s : Standing) where
   abbrev Still : Plan → Type 0
-  Still p = (x : ℕ) → p .outcome ≡ Error x → (p .writes ≡ []) × (p .session ≡ s)
+  Still p = (x : Check) → p .outcome ≡ Error x → (p .writes ≡ []) × (p .session ≡ s)
 
-  still-failed : (word : ℕ) → Still (failed s word)
+  still-failed : (k : Check) → Still (failed s k)
   unfolding failed
-  still-failed word x e = (refl, refl)
+  still-failed k x e = (refl, refl)
 
   -- what ends well
   still-well : (p : Plan) → isError (p .outcome) ≡ false → Still p
@@ -56,7 +58,7 @@ module _ (s : Standing) where
   still-select : (format : Format) (p2 : ℕ) (r : Row) (found : Found) → Still (select format s p2 r found)
   unfolding select selectEntry
   still-select format p2 r (At e) = on-pick Still _ _ _ (λ y. still-done _ _ _) (λ y. still-produced format _ _ _ _)
-  still-select format p2 r Nothing = still-failed 0x6A82
+  still-select format p2 r Nothing = still-failed NotFound
 
   still-read : (format : Format) (c : Command) (f : File) → Still (readBinary format c s f)
   unfolding readBinary
@@ -91,7 +93,7 @@ module _ (w : Situation) where
       (λ _. still-response s (w .command))
 
   -- the card and the session stay what they were
-  pub error-still : (waiting : List ℕ) (card : Card) (x : ℕ) → planned w .outcome ≡ Error x → (carriedOut (planned w) waiting card .card ≡ card) × (carriedOut (planned w) waiting card .session ≡ s)
+  pub error-still : (waiting : List ℕ) (card : Card) (x : Check) → planned w .outcome ≡ Error x → (carriedOut (planned w) waiting card .card ≡ card) × (carriedOut (planned w) waiting card .session ≡ s)
   unfolding carriedOut perform
   error-still waiting card x e =
       let k = of-planned (Still s) w (still-failed s) (λ _. still-by (w .command .instruction)) x e in

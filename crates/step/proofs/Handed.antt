@@ -6,9 +6,9 @@ use Prim.Native.Nat.{ℕ, _≤_, _<_}
 use lib.Dec.{eqb}
 use native.Mathlib.Omega.{arith}
 use lib.ListN.{length}
-use borrow.Author.Tests.{eqb-true}
+use borrow.Author.Tests.{not-false}
 use Rattle.octets.specs.Choice.{pick}
-use Rattle.octets.proofs.Picks.{and-left, on-pick}
+use Rattle.octets.proofs.Picks.{on-pick}
 use Rattle.octets.proofs.Writes.{write-length}
 use Rattle.card.specs.declared.tree.Found.{Found}
 use Rattle.card.specs.declared.tree.Found.the-variants.{At, Nothing}
@@ -30,10 +30,10 @@ use Rattle.command.specs.Promised.{OutcomeFits}
 use Rattle.plan.specs.Ends.{Plan, failed, done}
 use Rattle.plan.specs.Plans.{Situation, selectEntry, select, updateBinary, updateRecord, switch, doneBy}
 use Rattle.decide.specs.Order.{formalChecks, order}
-use Rattle.decide.specs.Fails.{caseFits, holds}
+use Rattle.decide.specs.Fails.{fails}
 use Rattle.decide.specs.Decisions.{situation, planned}
 use Rattle.step.specs.Steps.{carriedOut}
-use Rattle.decide.proofs.Passing.{none-fails}
+use Rattle.decide.proofs.Passing.{all-pass, case-right}
 use Rattle.decide.proofs.Instructed.{of-planned, by-instruction}
 use Rattle.plan.proofs.Fit.{Fit}
 use Rattle.decide.proofs.Planned.{planned-fit}
@@ -101,10 +101,10 @@ module _ (w : Situation) where
       (λ last. other-case ins.getResponse refl (last known) h)
 
   pub no-data : (eqb (w .command .case) 2 || eqb (w .command .case) 4) ≡ false → dataCount (planned w .outcome) ≡ 0
-  unfolding order formalChecks holds caseFits failed
+  unfolding order formalChecks fails failed
   no-data h =
-      of-planned Bare w (λ word. refl)
+      of-planned Bare w (λ k. refl)
       (λ none.
-      let all = none-fails w (order (w .command .instruction)) none in
-      let its : w .command .case ≡ caseOf (w .command .instruction) p2 = eqb-true _ _ (and-left _ _ (all .1 .1 .1 .1 .0)) in
-      bare-by (w .command .instruction) (all .1 .0) (rw its at h))
+      let all = all-pass w (order (w .command .instruction)) none in
+      let its : w .command .case ≡ caseOf (w .command .instruction) p2 = case-right _ _ (all .1 .1 .1 .1 .0) in
+      bare-by (w .command .instruction) (not-false _ (all .1 .0)) (rw its at h))

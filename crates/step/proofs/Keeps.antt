@@ -22,6 +22,7 @@ use Rattle.session.specs.Good.{Good}
 use Rattle.session.proofs.Good.{good-start, good-kept}
 use Rattle.command.specs.declared.Format.{Format}
 use Rattle.command.specs.declared.Command.{Command}
+use Rattle.command.specs.declared.checks.Check.{Check}
 use Rattle.plan.specs.Ends.{Plan, failed}
 use Rattle.step.specs.Steps.{Moved, carriedOut}
 use Rattle.decide.specs.Decisions.{situation, planned}
@@ -83,6 +84,6 @@ module _ (before : Card) (s : Standing) (waiting : List ℕ) (card : Card) (h : 
       (planned-fit format domain c «data» s card (card-table card (h .sound)) (h .good) brief)
       (planned-room format domain c «data» s card (card-parts card (h .sound)))
 
-  pub failed-holds : (word : ℕ) → Carries (failed s word)
+  pub failed-holds : (k : Check) → Carries (failed s k)
   unfolding failed carriedOut perform overwrite
-  failed-holds word = h
+  failed-holds k = h

@@ -17,6 +17,7 @@ use Rattle.session.specs.declared.Standing.{Standing}
 use Rattle.command.specs.declared.Format.{Format}
 use Rattle.command.specs.declared.Command.{Command}
 use Rattle.plan.specs.Ends.{Plan, failed}
+use Rattle.command.specs.declared.checks.Check.the-variants.{AnswerTooLong}
 use Rattle.command.specs.Outcomes.{dataCount}
 use Rattle.decide.specs.Decisions.{situation, planned}
 use Rattle.decide.proofs.Planned.{planned-fit}
@@ -42,10 +43,10 @@ counts-so kept n e z h = rw (e, ← z) h
 
 module _ (kept : ℕ) (counts : Bool) (s : Standing) (few : kept ≤ mostKept) where
   -- the rule by that test alone
-  pub by-passing : (c : Bool) (p : Plan) → limited kept c s p ≡ pick (passes kept c (dataCount (p .outcome))) (failed s 0x6F00) p
+  pub by-passing : (c : Bool) (p : Plan) → limited kept c s p ≡ pick (passes kept c (dataCount (p .outcome))) (failed s AnswerTooLong) p
   unfolding limited pick
   by-passing true p = refl
-  by-passing false p = pick-false (ltb mostKept (kept + 0)) (failed s 0x6F00) p (le-ltb mostKept (kept + 0) (omega arith))
+  by-passing false p = pick-false (ltb mostKept (kept + 0)) (failed s AnswerTooLong) p (le-ltb mostKept (kept + 0) (omega arith))
 
   -- what is decided under the rule
   module _ (card : Card) («data» bytes : List ℕ) (plan : Plan) (d : Decision) (told : Decided card «data» bytes plan d) where
@@ -53,10 +54,10 @@ module _ (kept : ℕ) (counts : Bool) (s : Standing) (few : kept ≤ mostKept) w
     unfolding planOf
     same-test = ap (λ (p : Plan). passes kept counts (dataCount (p .outcome))) (sym (told .same))
 
-    pub passing : (r : Decision) → passes kept counts (dataCount (d .outcome)) ≡ true → planOf r «data» bytes ≡ failed s 0x6F00 → r .change ≡ Nothing → Decided card «data» bytes (limited kept counts s plan) r
+    pub passing : (r : Decision) → passes kept counts (dataCount (d .outcome)) ≡ true → planOf r «data» bytes ≡ failed s AnswerTooLong → r .change ≡ Nothing → Decided card «data» bytes (limited kept counts s plan) r
     unfolding failed cost
     passing r test same none =
-        let e : limited kept counts s plan ≡ failed s 0x6F00 = by-passing counts plan ∙ pick-true _ _ _ (same-test ∙ test) in
+        let e : limited kept counts s plan ≡ failed s AnswerTooLong = by-passing counts plan ∙ pick-true _ _ _ (same-test ∙ test) in
         record {
           same = same ∙ sym e;
           fits = none-fits _ _ _ none;

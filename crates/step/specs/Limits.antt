@@ -8,6 +8,7 @@ use Rattle.octets.specs.Choice.{pick}
 use Rattle.tlv.specs.Lengths.{lengthBytes}
 use Rattle.session.specs.declared.Standing.{Standing}
 use Rattle.plan.specs.Ends.{Plan, failed}
+use Rattle.command.specs.declared.checks.Check.the-variants.{AnswerTooLong}
 use Rattle.command.specs.Outcomes.{dataCount}
 
 -- how many bytes an R-APDU takes whose data are n bytes: "23, length, data, status"
@@ -21,4 +22,4 @@ mostKept = 1000
 -- a plan, where so many bytes of R-APDUs are kept and this one counts or not
 unfoldable pub limited : ℕ → Bool → Standing → Plan → Plan
 limited kept counts s p =
-    pick (ltb mostKept (kept + pick counts (rapduSize (dataCount (p .outcome))) 0)) (failed s 0x6F00) p
+    pick (ltb mostKept (kept + pick counts (rapduSize (dataCount (p .outcome))) 0)) (failed s AnswerTooLong) p

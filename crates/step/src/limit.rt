@@ -1,4 +1,5 @@
 // "If R-APDUs kept so far and this one .. would pass 1,000 bytes, the command changes nothing, gets 6F00 and stops."
+use command::checks::Check;
 use command::ends::data_count;
 use plan::Decision;
 use plan::failed;
@@ -31,7 +32,7 @@ pub fn limited(d: Decision, s: Standing, kept: usize, counts: bool) -> Decision
     if counts {
         let outcome = d.outcome;
         if MOST_KEPT < kept + rapdu_size(data_count(outcome)) {
-            return failed(s, 0x6F00);
+            return failed(s, Check::AnswerTooLong);
         }
     }
     d
