@@ -1,4 +1,11 @@
-// The lent card: table and file memory.
+// The lent card: table and file memory. An entry of the table has 16 bytes:
+//
+//     byte 0      2        3      4       6        8        9        10      11  12      13      15
+//          +------+--------+------+-------+--------+--------+--------+-------+---+-------+-------+
+//          |  id  | parent | kind | start | length | record | newest | state | 0 | never | 0 0 0 |
+//          +------+--------+------+-------+--------+--------+--------+-------+---+-------+-------+
+//
+// Identifier, start and length are big-endian numbers of two bytes; `record` is the record length, and `never` the NEVER bits.
 pub mod records;
 pub mod rules;
 pub mod sound;
@@ -7,7 +14,8 @@ pub mod tree;
 ghost use mathlib.Core.Path.{_≡_};
 ghost use Prim.Native.Nat.{_+_, _*_, _≤_};
 ghost use lib.ListN.{length};
-ghost use Rattle.card.specs.Row.{entrySize, entries, row, rowOf, Narrow};
+ghost use Rattle.octets.specs.Bytes.{InWord};
+ghost use Rattle.card.specs.Row.{entrySize, entries, row, rowOf, placeOfNewest, placeOfState, Narrow};
 
 // The bytes of an entry.
 pub const ENTRY_SIZE: usize = 16;
@@ -86,4 +94,20 @@ pub fn row_at(table: &[u8], e: usize) -> Row
 {
     let at = ENTRY_SIZE * e;
     row_of(&table[at..at + ENTRY_SIZE])
+}
+
+// Returns the place in the table of the byte of entry e that holds the place of the newest record.
+pub fn place_of_newest(e: usize) -> usize
+    requires { ⌜ InWord (placeOfNewest e) ⌝ }
+    ensures { λ r. ⌜ r ≡ placeOfNewest e ⌝ }
+{
+    ENTRY_SIZE * e + NEWEST_BYTE
+}
+
+// Returns the place in the table of the byte of entry e that holds the state.
+pub fn place_of_state(e: usize) -> usize
+    requires { ⌜ InWord (placeOfState e) ⌝ }
+    ensures { λ r. ⌜ r ≡ placeOfState e ⌝ }
+{
+    ENTRY_SIZE * e + STATE_BYTE
 }

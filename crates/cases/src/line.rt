@@ -52,7 +52,7 @@ fn in_use(journal: &[u8]) -> usize
     requires { ⌜ 4 ≤ length (now journal) ⌝ }
     ensures { λ r. ⌜ (r ≡ min (4 + usedBytes (now (journal .entry))) (length (now (journal .entry)))) × (r ≤ length (now (journal .entry))) ⌝ }
 {
-    let n = 4 + journal::read::used_bytes(journal);
+    let n = 4 + journal::read::head_of(journal).used;
     if journal.len() < n {
         return journal.len();
     }

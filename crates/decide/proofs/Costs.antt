@@ -5,6 +5,7 @@ use Prim.Native.Nat.{ℕ, _+_, _<_}
 use native.Mathlib.Omega.{arith}
 use lib.ListN.{length}
 use lib.Seq.{length-take-le}
+use Rattle.journal.specs.Entries.{entryBytes}
 use Rattle.journal.specs.Changes.{cost}
 use Rattle.plan.specs.Promised.{recordWrites, writesOf, Fits, Brief}
 use Rattle.plan.specs.declared.Change.{Change}
@@ -13,10 +14,10 @@ use Rattle.plan.specs.declared.Change.the-variants.{Nothing, Content, DataRecor
 -- the journal bytes that a change takes, with so many data bytes
 unfoldable pub costOf : Change → ℕ → ℕ
 costOf Nothing lc = 0
-costOf (Content start size offset) lc = 8 + lc
-costOf (DataRecord r) lc = 8 + lc + 9
-costOf (SumRecord r) lc = 8 + r .«record» + 9
-costOf (TableByte place new) lc = 9
+costOf (Content start size offset) lc = entryBytes lc
+costOf (DataRecord r) lc = entryBytes lc + entryBytes 1
+costOf (SumRecord r) lc = entryBytes (r .«record») + entryBytes 1
+costOf (TableByte place new) lc = entryBytes 1
 
 pub cost-told : (change : Change) («data» bytes : List ℕ) → Brief change → length bytes ≡ 255 → cost (writesOf change «data» bytes) ≡ costOf change (length «data»)
 unfolding Brief cost writesOf recordWrites costOf
@@ -47,7 +48,7 @@ fits-brief t f lc (TableByte place new) h = tt
 pub known-brief : {change other : Change} → change ≡ other → Brief change → Brief other
 known-brief same = subst Brief same
 
-pub known-cost : {change other : Change} {lc : ℕ} → change ≡ other → Brief change → lc < 256 → ((«data» bytes : List ℕ) → length «data» ≡ lc → length bytes ≡ 255 → costOf other lc ≡ cost (writesOf change «data» bytes)) × (costOf other lc < 65536)
-known-cost {change} {other} {lc} same b h =
-    let e : costOf other lc ≡ costOf change lc = ap (λ (x : Change). costOf x lc) (sym same) in
+pub known-cost : {change other : Change} {lc n : ℕ} → change ≡ other → Brief change → lc < 256 → n ≡ costOf other lc → ((«data» bytes : List ℕ) → length «data» ≡ lc → length bytes ≡ 255 → n ≡ cost (writesOf change «data» bytes)) × (n < 65536)
+known-cost {change} {other} {lc} {n} same b h told =
+    let e : n ≡ costOf change lc = told ∙ ap (λ (x : Change). costOf x lc) (sym same) in
     (λ «data» bytes l w. e ∙ ap (costOf change) (sym l) ∙ sym (cost-told change «data» bytes b w), rw e (cost-small change lc b h))

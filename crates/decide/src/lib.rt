@@ -20,6 +20,7 @@ use command::instruction::SEARCH;
 use command::instruction::SELECT;
 use command::instruction::UPDATE_BINARY;
 use command::instruction::UPDATE_RECORD;
+use journal::entry_bytes;
 use plan::Change;
 use plan::Decision;
 use plan::does::select_entry;
@@ -88,17 +89,17 @@ fn decide_select(
     select_entry(format, s, c.p2, e, card::row_at(table, e), made)
 }
 
-// The journal bytes that a change takes, with so many data bytes.
+// Returns how many journal bytes a change takes, with lc data bytes.
 fn cost_of(change: Change, lc: usize) -> usize
     requires { ⌜ (lc < 256) × Brief change ⌝ }
     ensures { λ n. ⌜ ((«data» bytes : List ℕ) → length «data» ≡ lc → length bytes ≡ 255 → n ≡ cost (writesOf change «data» bytes)) × (n < 65536) ⌝ }
 {
     match change {
         Change::Nothing => 0,
-        Change::Content(_, _, _) => 8 + lc,
-        Change::DataRecord(_) => 8 + lc + 9,
-        Change::SumRecord(r) => 8 + r.record + 9,
-        Change::TableByte(_, _) => 9,
+        Change::Content(_, _, _) => entry_bytes(lc),
+        Change::DataRecord(_) => entry_bytes(lc) + entry_bytes(1),
+        Change::SumRecord(r) => entry_bytes(r.record) + entry_bytes(1),
+        Change::TableByte(_, _) => entry_bytes(1),
     }
 }
 
@@ -143,7 +144,7 @@ pub fn decide(
         }
         return get_response(c, s);
     }
-    let used = journal::read::used_bytes(journal);
+    let used = journal::read::head_of(journal).used;
     let room = journal::read::room_of(journal);
     if i == READ_BINARY {
         let d = file::read_binary(format, domain, c, data, s, table, files);

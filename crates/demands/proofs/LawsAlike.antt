@@ -8,14 +8,15 @@ use lib.ListN.{length}
 use borrow.Author.Tests.{leb-true, ltb-true, le-leb, lt-ltb}
 use Rattle.octets.proofs.Picks.{and-left, and-right, and-both}
 use Rattle.card.specs.Row.{Card, isADF}
-use Rattle.journal.specs.Entries.{headSize, usedBytes, scriptsOnTrial, room, entryBytes, entriesOf}
-use Rattle.journal.specs.Sound.{mostScripts, soundCard}
+use Rattle.journal.specs.declared.Head.{Head}
+use Rattle.journal.specs.Entries.{headSize, head, usedBytes, scriptsOnTrial, room, entryBytes, entriesOf}
+use Rattle.journal.specs.Sound.{mostScripts, markFits, soundCard}
 use Rattle.journal.specs.Changes.{withJournal, behindMark, bytesTaken, takenBack}
 use Rattle.journal.proofs.Behind.{behind-less}
 use Rattle.journal.proofs.Written.{sound-writable}
 use Rattle.journal.proofs.Cut.{cut-length, cut-scripts, cut-used}
 use Rattle.journal.proofs.Kept.{taken-alike, taken-sound}
-use Rattle.engine.specs.Numbers.{Arguments, applicationFits, argumentsFit, markFits}
+use Rattle.engine.specs.Numbers.{Arguments, applicationFits, argumentsFit}
 use Rattle.engine.specs.Calls.{numbered, run}
 use Rattle.demands.specs.Given.{Call, running, takingBack, confirming, given, number, lentResponse, seen}
 use Rattle.engine.proofs.Answers.{confirm-done}
@@ -34,11 +35,12 @@ module _ (c : Card) (sound : soundCard c ≡ true) where
       let j = c .journal in
       let u = bytesTaken (behindMark (entriesOf j)) in
       let s = scriptsOnTrial j - 1 in
+      let h′ : Head = head u s 0 in
       let ok = sound-writable c sound in
       let few = ltb-true (scriptsOnTrial j) mostScripts (and-left _ _ h) in
       let left = leb-true (usedBytes j + entryBytes 0) (length j - headSize) (and-right (ltb (scriptsOnTrial j) mostScripts) _ h) in
       let less = behind-less (entriesOf j) in
-      rw (cut-scripts j u s cut-fits, cut-used j u s cut-fits (ok .short), cut-length j u s cut-fits)
+      rw (cut-scripts j h′ cut-fits, cut-used j h′ cut-fits (ok .short), cut-length j h′ cut-fits)
       (and-both (ltb s mostScripts) (leb (u + entryBytes 0) (length j - headSize)) (lt-ltb s mostScripts (omega arith)) (le-leb (u + entryBytes 0) (length j - headSize) (omega arith)))
 
   arguments-back : (a : Arguments) → argumentsFit (takenBack c .table) a ≡ argumentsFit (c .table) a

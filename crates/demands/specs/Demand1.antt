@@ -10,8 +10,8 @@ use mathlib.Core.Path.{_≡_}
 use lib.ListN.{length}
 use Rattle.card.specs.Row.{Card}
 use Rattle.journal.specs.Entries.{scriptsOnTrial}
-use Rattle.journal.specs.Sound.{soundCard}
-use Rattle.engine.specs.Numbers.{Arguments, formatOf, argumentsFit, scriptFits, leastResponse, markFits, templateFits}
+use Rattle.journal.specs.Sound.{markFits, soundCard}
+use Rattle.engine.specs.Numbers.{Arguments, formatOf, argumentsFit, scriptFits, leastResponse, templateFits}
 use Rattle.engine.specs.Calls.{gives, numbered}
 use Rattle.demands.specs.Given.{Call, running, takingBack, confirming, given, number, lentResponse}
 

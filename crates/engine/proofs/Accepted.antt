@@ -8,18 +8,17 @@ use lib.Dec.{leb, ltb}
 use lib.ListN.{length}
 use borrow.Author.Tests.{leb-true, ltb-true, eq-eqb, ne-eqb}
 use Rattle.octets.specs.Choice.{pick}
-use Rattle.octets.specs.Bytes.{byte}
 use Rattle.octets.proofs.Picks.{and-left, and-right}
 use Rattle.card.specs.Row.{Card, lent, entries, rowOf}
 use Rattle.card.specs.Tree.{isRoot}
-use Rattle.journal.specs.Entries.{usedBytes, scriptsOnTrial, entryBytes, mark, HasRoom}
-use Rattle.journal.specs.Sound.{mostScripts, soundCard, Starts}
-use Rattle.journal.specs.Changes.{withJournal, pushedAt, pushed, marked, withMark}
+use Rattle.journal.specs.Entries.{scriptsOnTrial, entryBytes, HasRoom}
+use Rattle.journal.specs.Sound.{mostScripts, markFits, soundCard, Starts}
+use Rattle.journal.specs.Changes.{withJournal, marked, withMark}
 use Rattle.journal.proofs.Parts.{card-parts, card-table, room-left}
 use Rattle.journal.proofs.Pushed.{marked-scripts}
 use Rattle.journal.proofs.Kept.{mark-sound}
 use Rattle.command.specs.declared.Format.the-variants.{Compact, Expanded}
-use Rattle.engine.specs.Numbers.{Arguments, formatOf, scriptFits, markFits, firstGiven, runRefusals}
+use Rattle.engine.specs.Numbers.{Arguments, formatOf, scriptFits, firstGiven, runRefusals}
 use Rattle.engine.specs.Calls.{gives, numbered, unlessRefused, runScript, run, MayStart}
 use Rattle.engine.proofs.RunNumbers.{least-response, RunMet, is-met}
 use Rattle.engine.proofs.Refusals.{arguments-root}
@@ -64,13 +63,9 @@ module _ (c : Card) (a : Arguments) (none : firstGiven (runRefusals c a) ≡ 0) 
   unfolding withJournal
   marked-starts = record { sound = marked-sound; marked = marked-trial; inside = inside; root = root }
 
-  -- the journal that the code finds has its bytes
-  pub journal-whole : length (c .journal) ≡ 2048
-  journal-whole = card-parts c is-sound .size
-
-  pub scripts-byte : byte (c .journal) 2 + 1 < 256
-  unfolding scriptsOnTrial
-  scripts-byte = omega (arith, few-scripts)
+  -- what appending the mark asks for
+  pub may-mark : HasRoom (c .journal) (entryBytes 0) × (scriptsOnTrial (c .journal) < 255)
+  may-mark = (mark-room, omega (arith, few-scripts))
 
   -- what the script of either format starts from with the journal that has the mark, and what it comes to
   module _ (j : List ℕ) (is : j ≡ marked (c .journal)) where
@@ -81,11 +76,6 @@ module _ (c : Card) (a : Arguments) (none : firstGiven (runRefusals c a) ≡ 0) 
     pub accepted-run : runScript (formatOf (a .format)) a (lent (c .table) (c .files) j) ≡ run a c
     unfolding run withJournal
     accepted-run = ap (λ k. runScript (formatOf (a .format)) a (lent (c .table) (c .files) k)) is ∙ sym (given-done _ c (a .response) _ none)
-
--- the mark is pushed behind the used bytes, and counted
-pub is-marked : (j : List ℕ) {after : List ℕ} {u : ℕ} → u ≡ usedBytes j → after ≡ pushedAt j u (byte j 2 + 1) mark → after ≡ marked j
-unfolding marked pushed scriptsOnTrial
-is-marked j used pushes = pushes ∙ (λ i. pushedAt j (used i) (byte j 2 + 1) mark)
 
 -- a number that is not 0 refuses the run
 pub refused-run : (c : Card) (a : Arguments) (n : ℕ) → n ≡ firstGiven (runRefusals c a) → (n ≡ 0 → ⊥) → gives (numbered n) c (a .response) ≡ run a c

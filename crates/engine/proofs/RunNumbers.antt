@@ -9,10 +9,10 @@ use borrow.Author.Tests.{ltb-true, ltb-false, lt-ltb, le-ltb}
 use Rattle.octets.specs.Choice.{pick}
 use Rattle.octets.proofs.Picks.{on-pick}
 use Rattle.card.specs.Row.{Card}
-use Rattle.journal.specs.Sound.{soundCard}
+use Rattle.journal.specs.Sound.{markFits, soundCard}
 use Rattle.command.specs.declared.Format.{Format}
 use Rattle.command.specs.declared.Format.the-variants.{Compact, Expanded}
-use Rattle.engine.specs.Numbers.{Arguments, formatOf, argumentsFit, scriptFits, leastResponse, markFits, templateFits, firstGiven, notSound, runRefusals}
+use Rattle.engine.specs.Numbers.{Arguments, formatOf, argumentsFit, scriptFits, leastResponse, templateFits, firstGiven, notSound, runRefusals}
 
 -- the first of a run's numbers, by what they test
 abbrev firstOf : Bool → Bool → Bool → Bool → Bool → Bool → ℕ

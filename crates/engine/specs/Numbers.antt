@@ -9,8 +9,8 @@ use Rattle.card.specs.Row.{Card, entries, rowOf, isADF}
 use Rattle.tlv.specs.declared.template.Template.{Template}
 use Rattle.tlv.specs.declared.template.Template.the-variants.{Definite, Indefinite, Missing}
 use Rattle.tlv.specs.Templates.{templateOf}
-use Rattle.journal.specs.Entries.{usedBytes, scriptsOnTrial, room, entryBytes}
-use Rattle.journal.specs.Sound.{mostScripts, soundCard}
+use Rattle.journal.specs.Entries.{scriptsOnTrial}
+use Rattle.journal.specs.Sound.{markFits, soundCard}
 use Rattle.command.specs.declared.Format.{Format}
 use Rattle.command.specs.declared.Format.the-variants.{Compact, Expanded}
 
@@ -52,10 +52,6 @@ scriptFits script = leb 1 (length script) && leb (length script) longestScript
 unfoldable pub leastResponse : Format → ℕ
 leastResponse Compact = 1024
 leastResponse Expanded = 1024
-
--- "16 scripts on trial, or U + 8 above 2,044": a mark has no room
-unfoldable pub markFits : List ℕ → Bool
-markFits j = ltb (scriptsOnTrial j) mostScripts && leb (usedBytes j + entryBytes 0) (room j)
 
 unfoldable pub isMissing : Template → Bool
 isMissing (Definite at end) = false

@@ -56,9 +56,7 @@ pub fn run(
     if number != 0 {
         return numbered(number);
     }
-    let used = journal::read::used_bytes(journal);
-    let scripts = journal[2];
-    journal::write::push_mark(journal, used, scripts + 1);
+    journal::write::mark(journal);
     let wide = octets::wide(domain);
     if format == 0 {
         return run_compact(application, wide, script, response, table, files, journal);
@@ -73,7 +71,7 @@ pub fn take_back(table: &mut [u8], files: &mut [u8], journal: &mut [u8]) -> Answ
     if !journal::sound::sound_card(table, files, journal) {
         return numbered(1);
     }
-    if journal::read::scripts_on_trial(journal) == 0 {
+    if journal::read::head_of(journal).scripts == 0 {
         return numbered(7);
     }
     journal::back::take_back(table, files, journal);

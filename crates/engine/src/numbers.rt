@@ -40,17 +40,6 @@ fn script_fits(script: &[u8]) -> bool
     (1 <= script.len()) & (script.len() <= LONGEST_SCRIPT)
 }
 
-// Whether the journal has room for a mark.
-fn mark_fits(journal: &[u8]) -> bool
-    requires { ⌜ 4 ≤ length (now journal) ⌝ }
-    ensures { λ b. ⌜ b ≡ spec.markFits (now (journal .entry)) ⌝ }
-{
-    let scripts = journal::read::scripts_on_trial(journal);
-    let used = journal::read::used_bytes(journal);
-    (scripts < journal::MOST_SCRIPTS)
-        & (used + journal::TAIL_SIZE <= journal::read::room_of(journal))
-}
-
 // Whether a script has the template that its format asks for.
 fn template_fits(format: u8, script: &[u8]) -> bool
     ensures { λ b. ⌜ b ≡ spec.templateFits (spec.formatOf format) (now (script .entry)) ⌝ }
@@ -90,7 +79,7 @@ pub fn run_number(
     if response.len() < LEAST_RESPONSE {
         return 4;
     }
-    if !mark_fits(journal) {
+    if !journal::read::mark_fits(journal) {
         return 5;
     }
     if !template_fits(format, script) {

@@ -10,7 +10,7 @@ use Rattle.octets.specs.Choice.{pick}
 use Rattle.octets.specs.Bytes.{part, zeros}
 use Rattle.octets.proofs.Picks.{and-left, and-right}
 use Rattle.octets.proofs.Same.{zero-true}
-use Rattle.journal.specs.Entries.{Entry, headSize, usedBytes, scriptsOnTrial, entryBytes, encode, tailAt, entryAt, readable, noEntry, entriesOf}
+use Rattle.journal.specs.Entries.{Entry, headSize, head, usedBytes, scriptsOnTrial, entryBytes, encode, tailAt, entryAt, readable, noEntry, entriesOf}
 use Rattle.journal.specs.Sound.{formSound, entrySound, allSound}
 use Rattle.journal.specs.Changes.{bytesTaken, cutBack}
 use Rattle.journal.proofs.Entries.{Reading, none, stop, more, before, read-all}
@@ -60,7 +60,7 @@ module _ (t files j : List ℕ) (p : Parts t files j) where
   pub sound-taken : bytesTaken (entriesOf j) ≡ usedBytes j
   sound-taken = taken-all t (length files) j (read-all j) (used-inside t files j p) (p .sound)
 
-  pub sound-cut : cutBack j (usedBytes j) (scriptsOnTrial j) ≡ j
+  pub sound-cut : cutBack j (head (usedBytes j) (scriptsOnTrial j) 0) ≡ j
   unfolding cutBack
   sound-cut =
       let u = usedBytes j in

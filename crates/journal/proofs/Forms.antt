@@ -19,7 +19,9 @@ use Rattle.card.specs.Sound.{soundTable}
 use Rattle.card.proofs.Kept.{Rows, rows-same, rows-both, sound-length}
 use Rattle.journal.specs.Entries.{Entry, isMark}
 use Rattle.journal.specs.Sound.{tablePlaceSound, formSound, entrySound, allSound}
-use Rattle.journal.specs.Changes.{Memory, fileMemory, tableMemory, memoryOf, withMemory, kindFor, memoryFor, restoreOne, restore, sinceMark}
+use Rattle.journal.specs.declared.Memory.{Memory}
+use Rattle.journal.specs.declared.Memory.the-variants.{Files, Table}
+use Rattle.journal.specs.Changes.{memoryOf, withMemory, kindFor, memoryFor, restoreOne, restore, sinceMark}
 use Rattle.journal.proofs.Memories.{put}
 use Rattle.journal.proofs.Table.{form-kept, place-fits, table-rows, table-kept, old-sound}
 
@@ -58,22 +60,22 @@ module _ (c : Card) (place : ℕ) (d : List ℕ) where
   abbrev Sound : Memory → Type 0
   Sound m = formSound (c .table) (length (c .files)) (kindFor m) place (length d) (byte d 0) ≡ true
 
-  one : Sound tableMemory → length d ≡ 1
+  one : Sound Table → length d ≡ 1
   unfolding formSound kindFor pick
   one ok = eqb-true (length d) 1 (and-left _ _ ok)
 
-  at-place : Sound tableMemory → tablePlaceSound (c .table) place (byte d 0) ≡ true
+  at-place : Sound Table → tablePlaceSound (c .table) place (byte d 0) ≡ true
   unfolding formSound kindFor pick
   at-place ok = and-right (eqb (length d) 1) _ ok
 
-  in-files : Sound fileMemory → place + length d ≤ length (c .files)
+  in-files : Sound Files → place + length d ≤ length (c .files)
   unfolding formSound kindFor pick
   in-files ok = leb-true (place + length d) (length (c .files)) (and-right (leb (length d) 255) _ (and-right (leb 1 (length d)) _ ok))
 
   pub put-fits : (m : Memory) → Sound m → place + length d ≤ length (memoryOf m c)
   unfolding memoryOf
-  put-fits fileMemory ok = in-files ok
-  put-fits tableMemory ok =
+  put-fits Files ok = in-files ok
+  put-fits Table ok =
       let h = place-fits (c .table) place (byte d 0) (at-place ok) in
       let l = one ok in
       omega arith
@@ -81,14 +83,14 @@ module _ (c : Card) (place : ℕ) (d : List ℕ) where
   module _ (sound : soundTable (c .table) (c .files) ≡ true) where
     pub put-alike : (m : Memory) → Sound m → Alike c (put m place d c)
     unfolding put withMemory memoryOf
-    put-alike fileMemory ok =
+    put-alike Files ok =
         let l = write-length (c .files) place d (in-files ok) in
         record {
           table = sound-length (c .table) (overwrite (c .files) place d) (c .files) l ∙ sound;
           rows = rows-same (c .table);
           files = l;
         }
-    put-alike tableMemory ok =
+    put-alike Table ok =
         let b = one-byte d (one ok) in
         record {
           table = ap (λ (v : List ℕ). soundTable (overwrite (c .table) place v) (c .files)) b ∙ table-kept (c .table) place (byte d 0) (at-place ok) (c .files) sound;
@@ -99,15 +101,15 @@ module _ (c : Card) (place : ℕ) (d : List ℕ) where
     -- and the old bytes there are of a sound form too
     pub old-form : (m : Memory) → Sound m → formSound (c .table) (length (c .files)) (kindFor m) place (length d) (byte (part (memoryOf m c) place (length d)) 0) ≡ true
     unfolding memoryOf formSound kindFor pick
-    old-form fileMemory ok = ok
-    old-form tableMemory ok =
+    old-form Files ok = ok
+    old-form Table ok =
         let l = one ok in
         and-both (eqb (length d) 1) _ (and-left _ _ ok)
         (ap (tablePlaceSound (c .table) place) (byte-part (c .table) place (length d) 0 (omega arith) ∙ ap (byte (c .table)) (add-zero place))
         ∙ old-sound (c .table) place (byte d 0) (at-place ok) (c .files) sound)
 
 -- entries given back, the newest first, down to the newest mark
-kind-of : (k : ℕ) (x y z : Bool) → eqb k 1 ≡ false → pick (eqb k 1) x (pick (eqb k 2) y (eqb k 3 && z)) ≡ true → kindFor (pick (eqb k 3) tableMemory fileMemory) ≡ k
+kind-of : (k : ℕ) (x y z : Bool) → eqb k 1 ≡ false → pick (eqb k 1) x (pick (eqb k 2) y (eqb k 3 && z)) ≡ true → kindFor (pick (eqb k 3) Table Files) ≡ k
 unfolding kindFor pick
 kind-of k x y z other h =
     let rest : pick (eqb k 2) y (eqb k 3 && z) ≡ true = rw other at h in

@@ -16,7 +16,9 @@ use Rattle.card.specs.Row.{Card, lent}
 use Rattle.journal.specs.declared.Tail.{Tail}
 use Rattle.journal.specs.Entries.{Entry, headSize, tailSize, entryBytes, marksStart, holdsTableByte, isMark, tailAt, oldPlace, entryAt, readable, entriesBack}
 use Rattle.journal.specs.Sound.{formSound, entrySound, allSound, marks}
-use Rattle.journal.specs.Changes.{Memory, fileMemory, tableMemory, memoryOf, memoryFor, withMemory, restoreOne, restore, sinceMark, behindMark, bytesTaken}
+use Rattle.journal.specs.declared.Memory.{Memory}
+use Rattle.journal.specs.declared.Memory.the-variants.{Files, Table}
+use Rattle.journal.specs.Changes.{memoryOf, memoryFor, withMemory, restoreOne, restore, sinceMark, behindMark, bytesTaken}
 use Rattle.journal.proofs.Entries.{before, readable-fits, read, back-next}
 use Rattle.journal.proofs.Tails.{old-length}
 use Rattle.journal.proofs.Memories.{memory-length}
@@ -35,13 +37,13 @@ old-part j u l e = rw (add-sub-cancel-left (headSize + u - entryBytes (l .count)
 
 -- an entry's old bytes are given back to the memory that they came from
 module _ (j : List ℕ) (u : ℕ) {l : Tail} (e : l ≡ tailAt j u) where
-  pub from-table : l .kind ≡ holdsTableByte → memoryFor (entryAt j u) ≡ tableMemory
+  pub from-table : l .kind ≡ holdsTableByte → memoryFor (entryAt j u) ≡ Table
   unfolding memoryFor entryAt
-  from-table k = pick-true (eqb (tailAt j u .kind) holdsTableByte) tableMemory fileMemory (eq-eqb (tailAt j u .kind) holdsTableByte (rw e at k))
+  from-table k = pick-true (eqb (tailAt j u .kind) holdsTableByte) Table Files (eq-eqb (tailAt j u .kind) holdsTableByte (rw e at k))
 
-  pub from-files : (l .kind ≡ holdsTableByte → ⊥) → memoryFor (entryAt j u) ≡ fileMemory
+  pub from-files : (l .kind ≡ holdsTableByte → ⊥) → memoryFor (entryAt j u) ≡ Files
   unfolding memoryFor entryAt
-  from-files k = pick-false (eqb (tailAt j u .kind) holdsTableByte) tableMemory fileMemory (ne-eqb (tailAt j u .kind) holdsTableByte (rw e at k))
+  from-files k = pick-false (eqb (tailAt j u .kind) holdsTableByte) Table Files (ne-eqb (tailAt j u .kind) holdsTableByte (rw e at k))
 
   module _ (c : Card) {m : Memory} (from : memoryFor (entryAt j u) ≡ m) where
     pub fits-back : entryAt j u .place + length (entryAt j u .old) ≤ length (memoryOf (memoryFor (entryAt j u)) c) → l .place + length (oldPart j u l) ≤ length (memoryOf m c)

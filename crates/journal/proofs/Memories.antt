@@ -10,7 +10,9 @@ use Rattle.octets.specs.Bytes.{part, overwrite}
 use Rattle.octets.proofs.Writes.{undo, write-length}
 use Rattle.card.specs.Row.{Card}
 use Rattle.journal.specs.Entries.{marksStart, holdsTableByte, isMark, scriptsOnTrial}
-use Rattle.journal.specs.Changes.{Memory, fileMemory, tableMemory, Write, memoryOf, withJournal, withMemory, pushed, kindFor, entryFor, write, memoryFor, restoreOne}
+use Rattle.journal.specs.declared.Memory.{Memory}
+use Rattle.journal.specs.declared.Memory.the-variants.{Files, Table}
+use Rattle.journal.specs.Changes.{Write, memoryOf, withJournal, withMemory, pushed, kindFor, entryFor, write, memoryFor, restoreOne}
 
 -- bytes at a place of a memory
 unfoldable pub put : Memory → ℕ → List ℕ → Card → Card
@@ -18,48 +20,48 @@ put m p d c = withMemory m c (overwrite (memoryOf m c) p d)
 
 pub memory-beside : (m : Memory) (c : Card) (j : List ℕ) → memoryOf m (withJournal c j) ≡ memoryOf m c
 unfolding memoryOf withJournal
-memory-beside fileMemory c j = refl
-memory-beside tableMemory c j = refl
+memory-beside Files c j = refl
+memory-beside Table c j = refl
 
 pub put-beside : (m : Memory) (p : ℕ) (d : List ℕ) (c : Card) (j : List ℕ) → put m p d (withJournal c j) ≡ withJournal (put m p d c) j
 unfolding put withMemory memoryOf withJournal
-put-beside fileMemory p d c j = refl
-put-beside tableMemory p d c j = refl
+put-beside Files p d c j = refl
+put-beside Table p d c j = refl
 
 -- a memory of two cards whose memories have the same lengths
 pub memory-length : (m : Memory) (c d : Card) → length (c .table) ≡ length (d .table) → length (c .files) ≡ length (d .files) → length (memoryOf m c) ≡ length (memoryOf m d)
 unfolding memoryOf
-memory-length fileMemory c d t f = f
-memory-length tableMemory c d t f = t
+memory-length Files c d t f = f
+memory-length Table c d t f = t
 
 -- bytes that fit there
 pub put-undo : (m : Memory) (p : ℕ) (d : List ℕ) (c : Card) → p + length d ≤ length (memoryOf m c) → put m p (part (memoryOf m c) p (length d)) (put m p d c) ≡ c
 unfolding put withMemory memoryOf
-put-undo fileMemory p d c fits = λ i. record { table = c .table; files = undo (c .files) p d fits i; journal = c .journal }
-put-undo tableMemory p d c fits = λ i. record { table = undo (c .table) p d fits i; files = c .files; journal = c .journal }
+put-undo Files p d c fits = λ i. record { table = c .table; files = undo (c .files) p d fits i; journal = c .journal }
+put-undo Table p d c fits = λ i. record { table = undo (c .table) p d fits i; files = c .files; journal = c .journal }
 
 pub put-length : (m n : Memory) (p : ℕ) (d : List ℕ) (c : Card) → p + length d ≤ length (memoryOf n c) → length (memoryOf m (put n p d c)) ≡ length (memoryOf m c)
 unfolding put withMemory memoryOf
-put-length fileMemory fileMemory p d c fits = write-length (c .files) p d fits
-put-length fileMemory tableMemory p d c fits = refl
-put-length tableMemory fileMemory p d c fits = refl
-put-length tableMemory tableMemory p d c fits = write-length (c .table) p d fits
+put-length Files Files p d c fits = write-length (c .files) p d fits
+put-length Files Table p d c fits = refl
+put-length Table Files p d c fits = refl
+put-length Table Table p d c fits = write-length (c .table) p d fits
 
 -- a write is such bytes and another journal
 with-both : (m : Memory) (c : Card) (j k : List ℕ) → withMemory m (withJournal c j) k ≡ withJournal (withMemory m c k) j
 unfolding withMemory withJournal
-with-both fileMemory c j k = refl
-with-both tableMemory c j k = refl
+with-both Files c j k = refl
+with-both Table c j k = refl
 
-kind-memory : (m : Memory) → pick (eqb (kindFor m) holdsTableByte) tableMemory fileMemory ≡ m
+kind-memory : (m : Memory) → pick (eqb (kindFor m) holdsTableByte) Table Files ≡ m
 unfolding kindFor pick
-kind-memory fileMemory = refl
-kind-memory tableMemory = refl
+kind-memory Files = refl
+kind-memory Table = refl
 
 kind-no-mark : (m : Memory) → eqb (kindFor m) marksStart ≡ false
 unfolding kindFor
-kind-no-mark fileMemory = refl
-kind-no-mark tableMemory = refl
+kind-no-mark Files = refl
+kind-no-mark Table = refl
 
 module _ (w : Write) (c : Card) where
   -- the journal after it

@@ -12,13 +12,13 @@ use Rattle.octets.proofs.Picks.{and-left, and-right, and-both}
 use Rattle.octets.proofs.Same.{same-true, same-refl}
 use Rattle.card.specs.Row.{Card}
 use Rattle.card.specs.Sound.{soundTable}
-use Rattle.journal.specs.Entries.{headSize, head, usedBytes, scriptsOnTrial, room, HasRoom, entriesOf}
+use Rattle.journal.specs.Entries.{headSize, head, headBytes, usedBytes, scriptsOnTrial, room, HasRoom, entriesOf}
 use Rattle.journal.specs.Sound.{journalLength, mostScripts, headSound, allSound, oldestIsMark, marks, entriesSound, soundJournal, soundCard}
 
 -- what a journal's soundness promises beside a table and a file memory
 pub record Parts (t files j : List ℕ) : Type 0 where
   pub size : length j ≡ journalLength
-  pub begins : part j 0 headSize ≡ head (usedBytes j) (scriptsOnTrial j) 0
+  pub begins : part j 0 headSize ≡ headBytes (head (usedBytes j) (scriptsOnTrial j) 0)
   pub used : usedBytes j ≤ room j
   pub scripts : scriptsOnTrial j ≤ mostScripts
   pub rest : allZero (drop (headSize + usedBytes j) j) ≡ true
@@ -34,7 +34,7 @@ module _ (t files j : List ℕ) where
       let inner = and-right (eqb (length j) journalLength) _ h in
       let top = and-left (headSound j) _ inner in
       let low = and-right (headSound j) _ inner in
-      let one = and-right (same (part j 0 headSize) (head (usedBytes j) (scriptsOnTrial j) 0)) _ top in
+      let one = and-right (same (part j 0 headSize) (headBytes (head (usedBytes j) (scriptsOnTrial j) 0))) _ top in
       let two = and-right (leb (usedBytes j) (room j)) _ one in
       let three = and-right (allSound t (length files) (entriesOf j)) _ low in
       record {
@@ -51,7 +51,7 @@ module _ (t files j : List ℕ) where
   whole : Parts t files j → soundJournal t files j ≡ true
   unfolding soundJournal headSound entriesSound
   whole p =
-      rw (eq-eqb (length j) journalLength (p .size), p .begins, same-refl (head (usedBytes j) (scriptsOnTrial j) 0), le-leb (usedBytes j) (room j) (p .used), le-leb (scriptsOnTrial j) mostScripts (p .scripts), p .rest, p .sound, p .oldest)
+      rw (eq-eqb (length j) journalLength (p .size), p .begins, same-refl (headBytes (head (usedBytes j) (scriptsOnTrial j) 0)), le-leb (usedBytes j) (room j) (p .used), le-leb (scriptsOnTrial j) mostScripts (p .scripts), p .rest, p .sound, p .oldest)
       (eq-eqb (marks (entriesOf j)) (scriptsOnTrial j) (p .marked))
 
 -- the used bytes lie inside the journal

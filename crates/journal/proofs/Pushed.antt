@@ -8,49 +8,69 @@ use lib.ListN.{length, take, drop}
 use Rattle.octets.specs.Bytes.{byte, part, bytes2, overwrite}
 use Rattle.octets.proofs.Writes.{part-part, part-before, part-here, write-length, drop-after}
 use Rattle.octets.proofs.Numbers.{num-of-part, byte-part}
-use Rattle.journal.specs.Entries.{Entry, headSize, head, usedBytes, scriptsOnTrial, HasRoom, encode, entryBytes, mark, entriesOf}
-use Rattle.journal.specs.Changes.{pushedAt, pushed, marked}
+use Rattle.journal.specs.declared.Head.{Head}
+use Rattle.journal.specs.Entries.{Entry, headSize, head, headBytes, headOf, usedBytes, scriptsOnTrial, flagOf, HasRoom, encode, entryBytes, mark, entriesOf}
+use Rattle.journal.specs.Changes.{pushed, marked}
 use Rattle.journal.proofs.Entries.{read-all, read-only, same-reading}
 use Rattle.journal.proofs.Tails.{encode-length, next-reading}
 
+-- the numbers of a head that is a journal's
+module _ (j : List ℕ) {h : Head} (own : h ≡ headOf j) where
+  pub own-used : h .used ≡ usedBytes j
+  own-used = λ i. own i .used
+
+  pub own-scripts : h .scripts ≡ scriptsOnTrial j
+  own-scripts = λ i. own i .scripts
+
+  pub own-flag : h .flag ≡ flagOf j
+  own-flag = λ i. own i .flag
+
 -- the bytes of a head
-pub head-length : (u s f : ℕ) → length (head u s f) ≡ headSize
-unfolding head bytes2
-head-length u s f = refl
+pub head-length : (h : Head) → length (headBytes h) ≡ headSize
+unfolding headBytes bytes2
+head-length h = refl
 
-module _ (m : List ℕ) (u s f : ℕ) (there : part m 0 headSize ≡ head u s f) where
-  pub head-used : u < 65536 → usedBytes m ≡ u
-  unfolding usedBytes head bytes2
-  head-used h = num-of-part m 0 u (sym (part-part m 0 headSize 0 2 (omega arith)) ∙ ap (λ (k : List ℕ). part k 0 2) there) h
+module _ (m : List ℕ) (h : Head) (there : part m 0 headSize ≡ headBytes h) where
+  pub head-used : h .used < 65536 → usedBytes m ≡ h .used
+  unfolding usedBytes headBytes bytes2
+  head-used small = num-of-part m 0 (h .used) (sym (part-part m 0 headSize 0 2 (omega arith)) ∙ ap (λ (k : List ℕ). part k 0 2) there) small
 
-  pub head-scripts : scriptsOnTrial m ≡ s
-  unfolding scriptsOnTrial head bytes2
+  pub head-scripts : scriptsOnTrial m ≡ h .scripts
+  unfolding scriptsOnTrial headBytes bytes2
   head-scripts = sym (byte-part m 0 headSize 2 (omega arith)) ∙ ap (λ (k : List ℕ). byte k 2) there
+
+  pub head-flag : flagOf m ≡ h .flag
+  unfolding flagOf headBytes bytes2
+  head-flag = sym (byte-part m 0 headSize 3 (omega arith)) ∙ ap (λ (k : List ℕ). byte k 3) there
 
 -- one more entry
 module _ (j : List ℕ) (s : ℕ) (e : Entry) (fits : HasRoom j (length (encode e))) where
+  -- the head after it
+  abbrev next : Head
+  next = head (usedBytes j + length (encode e)) s (flagOf j)
+
   written-length : length (overwrite j (headSize + usedBytes j) (encode e)) ≡ length j
   written-length = write-length j (headSize + usedBytes j) (encode e) fits
 
-  head-fits : 0 + length (head (usedBytes j + length (encode e)) s 0) ≤ length (overwrite j (headSize + usedBytes j) (encode e))
+  head-fits : 0 + length (headBytes next) ≤ length (overwrite j (headSize + usedBytes j) (encode e))
   head-fits = rw (written-length, head-length) (omega arith)
 
   -- what stands behind the head: as if the head had not been written
   behind-head : (a : ℕ) → headSize ≤ a → drop a (pushed j s e) ≡ drop a (overwrite j (headSize + usedBytes j) (encode e))
-  unfolding pushed pushedAt
+  unfolding pushed
   behind-head a h =
-      drop-after (overwrite j (headSize + usedBytes j) (encode e)) 0 (head (usedBytes j + length (encode e)) s 0) head-fits a
+      drop-after (overwrite j (headSize + usedBytes j) (encode e)) 0 (headBytes next) head-fits a
       (rw head-length (omega arith))
 
   pub pushed-length : length (pushed j s e) ≡ length j
-  unfolding pushed pushedAt
-  pushed-length = write-length (overwrite j (headSize + usedBytes j) (encode e)) 0 (head (usedBytes j + length (encode e)) s 0) head-fits ∙ written-length
+  unfolding pushed
+  pushed-length = write-length (overwrite j (headSize + usedBytes j) (encode e)) 0 (headBytes next) head-fits ∙ written-length
 
-  pub pushed-head : part (pushed j s e) 0 headSize ≡ head (usedBytes j + length (encode e)) s 0
-  unfolding pushed pushedAt
+  pub pushed-head : part (pushed j s e) 0 headSize ≡ headBytes next
+  unfolding pushed
   pushed-head =
-      part-here (overwrite j (headSize + usedBytes j) (encode e)) 0 (head (usedBytes j + length (encode e)) s 0) head-fits headSize
-      (head-length (usedBytes j + length (encode e)) s 0)
+      part-here (overwrite j (headSize + usedBytes j) (encode e)) 0 (headBytes next) head-fits headSize
+      (head-length next)
 
   pub pushed-kept : part (pushed j s e) headSize (usedBytes j) ≡ part j headSize (usedBytes j)
   pushed-kept =
@@ -68,11 +88,17 @@ module _ (j : List ℕ) (s : ℕ) (e : Entry) (fits : HasRoom j (length (encode 
       ∙ drop-after j (headSize + usedBytes j) (encode e) fits (headSize + (usedBytes j + length (encode e))) (omega arith)
 
   pub pushed-scripts : scriptsOnTrial (pushed j s e) ≡ s
-  pushed-scripts = head-scripts (pushed j s e) (usedBytes j + length (encode e)) s 0 pushed-head
+  pushed-scripts = head-scripts (pushed j s e) next pushed-head
+
+  pub pushed-flag : flagOf (pushed j s e) ≡ flagOf j
+  pushed-flag = head-flag (pushed j s e) next pushed-head
 
   module _ (short : length j ≤ 65535) where
     pub pushed-used : usedBytes (pushed j s e) ≡ usedBytes j + length (encode e)
-    pushed-used = head-used (pushed j s e) (usedBytes j + length (encode e)) s 0 pushed-head (omega arith)
+    pushed-used = head-used (pushed j s e) next pushed-head (omega arith)
+
+    pub pushed-next : next ≡ headOf (pushed j s e)
+    pushed-next = λ i. head (sym pushed-used i) (sym pushed-scripts i) (sym pushed-flag i)
 
     pub pushed-entries : e .place < 65536 → entriesOf (pushed j s e) ≡ e ∷ entriesOf j
     unfolding entriesOf

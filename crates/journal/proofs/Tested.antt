@@ -13,7 +13,7 @@ use Rattle.octets.specs.Choice.{pick}
 use Rattle.octets.specs.Bytes.{byte, AllBytes, part, numAt, bytes2, allZero, same}
 use Rattle.octets.proofs.Numbers.{byte-part}
 use Rattle.journal.specs.declared.Tail.{Tail}
-use Rattle.journal.specs.Entries.{Entry, headSize, head, tail, entryBytes, marksStart, tailBytes, tailIn, tailAt, formed, oldPlace, entryAt, readable, noEntry, entriesBack, entriesOf, usedBytes, scriptsOnTrial, room}
+use Rattle.journal.specs.Entries.{Entry, headSize, head, headBytes, tail, entryBytes, marksStart, tailBytes, tailIn, tailAt, formed, oldPlace, entryAt, readable, noEntry, entriesBack, entriesOf, usedBytes, scriptsOnTrial, flagOf, room}
 use Rattle.journal.specs.Sound.{journalLength, mostScripts, headSound, formSound, entrySound, allSound, lastIsMark, oldestIsMark, marks, entriesSound, soundJournal}
 use Rattle.journal.proofs.Entries.{before, back-stuck, back-next}
 use Rattle.journal.proofs.Tails.{old-length}
@@ -95,8 +95,8 @@ module _ {b : Bool} (t : List ℕ) (files scripts : ℕ) (j : List ℕ) (u n : �
       rw (q, e, add-assoc n (pick (eqb (tailAt j u .kind) marksStart) 1 0) (marks (entriesBack (before j u) j (before j u)))) (rw (back-next j u h, f) at left)
 
 -- the journal's soundness, test by test
-head-four : (a b c d : ℕ) → a < 256 → b < 256 → same (a ∷ b ∷ c ∷ d ∷ []) (head (a * 256 + b) c 0) ≡ eqb d 0
-unfolding same head bytes2
+head-four : (a b c d : ℕ) → a < 256 → b < 256 → same (a ∷ b ∷ c ∷ d ∷ []) (headBytes (head (a * 256 + b) c 0)) ≡ eqb d 0
+unfolding same headBytes bytes2
 head-four a b c d ha hb =
     rw (eq-eqb a ((a * 256 + b) / 256 % 256) (omega arith), eq-eqb b ((a * 256 + b) % 256) (omega arith), eq-eqb c c refl, and-true (eqb d 0))
 
@@ -105,8 +105,8 @@ rest-test j {used} us r = r ∙ rw (take-all (length j - (headSize + used)) (dro
 
 abbrev pub journalTests : List ℕ → List ℕ → List ℕ → Bool
 journalTests t f j =
-    eqb (byte j 3) 0
-    && (leb (usedBytes j) 2044
+    eqb (flagOf j) 0
+    && (leb (usedBytes j) (room j)
     && (leb (scriptsOnTrial j) mostScripts
     && (allZero (drop (headSize + usedBytes j) j) && entriesSound t (length f) (scriptsOnTrial j) (entriesOf j))))
 
@@ -116,11 +116,11 @@ module _ (t f j : List ℕ) where
   journal-short h = rw (ne-eqb (length j) journalLength h)
 
   pub journal-test : length j ≡ journalLength → AllBytes j → soundJournal t f j ≡ journalTests t f j
-  unfolding soundJournal headSound room usedBytes scriptsOnTrial numAt bytesFrom
+  unfolding soundJournal headSound usedBytes scriptsOnTrial flagOf numAt bytesFrom
   journal-test long small =
-      let hd : List ℕ = head (usedBytes j) (scriptsOnTrial j) 0 in
+      let hd : List ℕ = headBytes (head (usedBytes j) (scriptsOnTrial j) 0) in
       let h : same (part j 0 headSize) hd ≡ eqb (byte j 3) 0 = ap (λ (l : List ℕ). same l hd) (byte-by-byte j 0 4 (omega arith)) ∙ head-four (byte j 0) (byte j 1) (byte j 2) (byte j 3) (small 0) (small 1) in
-      rw (eq-eqb (length j) journalLength long, h, long) (simp and-assoc)
+      rw (eq-eqb (length j) journalLength long, h) (simp and-assoc)
 
   pub entries-test : {used scripts : ℕ} {b : Bool} → used ≡ usedBytes j → scripts ≡ scriptsOnTrial j → b ≡ entriesSound t (length f) scripts (entriesBack used j used) → b ≡ entriesSound t (length f) (scriptsOnTrial j) (entriesOf j)
   unfolding entriesOf

@@ -8,7 +8,8 @@ use lib.ListN.{length}
 use Rattle.octets.specs.Choice.{pick}
 use Rattle.octets.specs.Bytes.{part, zeros}
 use Rattle.card.specs.Row.{Card}
-use Rattle.journal.specs.Entries.{Entry, headSize, head, usedBytes, scriptsOnTrial, entryBytes, mark, entriesOf, HasRoom}
+use Rattle.journal.specs.declared.Head.{Head}
+use Rattle.journal.specs.Entries.{Entry, headSize, head, headBytes, usedBytes, scriptsOnTrial, entryBytes, mark, entriesOf, HasRoom}
 use Rattle.journal.specs.Sound.{soundCard}
 use Rattle.journal.specs.Changes.{Write, withJournal, marked, withMark, entryFor, write, perform, cost, memoryFor, restoreOne, restore, sinceMark, behindMark, bytesTaken, cutBack, takenBack}
 use Rattle.journal.proofs.Entries.{part-same}
@@ -27,14 +28,14 @@ restore-beside (e ∷ es) c j =
     ap (restore es) (put-beside (memoryFor e) (e .place) (e .old) c j) ∙ restore-beside es (restoreOne e c) j
 
 -- a card's take-back, told by its entries and its scripts on trial
-taken-by : (c : Card) (es : List Entry) (s : ℕ) → entriesOf (c .journal) ≡ es → scriptsOnTrial (c .journal) ≡ s → takenBack c ≡ withJournal (restore (sinceMark es) c) (cutBack (c .journal) (bytesTaken (behindMark es)) (s - 1))
+taken-by : (c : Card) (es : List Entry) (s : ℕ) → entriesOf (c .journal) ≡ es → scriptsOnTrial (c .journal) ≡ s → takenBack c ≡ withJournal (restore (sinceMark es) c) (cutBack (c .journal) (head (bytesTaken (behindMark es)) (s - 1) 0))
 unfolding takenBack
 taken-by c es s e f = rw (e, f)
 
 -- a journal cut back depends on no other bytes than those left
-cut-same : (j k : List ℕ) (u s : ℕ) → length j ≡ length k → part j headSize u ≡ part k headSize u → cutBack j u s ≡ cutBack k u s
+cut-same : (j k : List ℕ) (h : Head) → length j ≡ length k → part j headSize (h .used) ≡ part k headSize (h .used) → cutBack j h ≡ cutBack k h
 unfolding cutBack
-cut-same j k u s l e = λ i. head u s 0 ++ (e i ++ zeros (l i - (headSize + u)))
+cut-same j k h l e = λ i. headBytes h ++ (e i ++ zeros (l i - (headSize + h .used)))
 
 -- a write
 pub back-write : (w : Write) (c : Card) → Fits w c → Writable c → HasRoom (c .journal) (entryBytes (length (w .new))) → takenBack (write w c) ≡ takenBack c
@@ -51,9 +52,9 @@ back-write w c fits ok left =
     let other = entry-no-mark w c in
     let k = part-same j (c .journal) (usedBytes (c .journal)) (g .kept) 0 b (omega arith) in
     taken-by (write w c) (e ∷ es) s (g .entries) (g .scripts)
-    ∙ (λ i. withJournal (restore (since-other e es other i) (write w c)) (cutBack j (bytesTaken (behind-other e es other i)) (s - 1)))
-    ∙ (λ i. withJournal (restore (sinceMark es) (restore-write w c fits i)) (cutBack j b (s - 1)))
-    ∙ (λ i. withJournal (restore-beside (sinceMark es) c j i) (cut-same j (c .journal) b (s - 1) (g .size) k i))
+    ∙ (λ i. withJournal (restore (since-other e es other i) (write w c)) (cutBack j (head (bytesTaken (behind-other e es other i)) (s - 1) 0)))
+    ∙ (λ i. withJournal (restore (sinceMark es) (restore-write w c fits i)) (cutBack j (head b (s - 1) 0)))
+    ∙ (λ i. withJournal (restore-beside (sinceMark es) c j i) (cut-same j (c .journal) (head b (s - 1) 0) (g .size) k i))
 
 -- a list of writes
 pub back-perform : (ws : List Write) (c : Card) → AllFit ws c → Writable c → HasRoom (c .journal) (cost ws) → takenBack (perform ws c) ≡ takenBack c
@@ -69,8 +70,8 @@ back-mark c sound left =
     let g = marked-grown (c .journal) left (ok .short) in
     let one : s + 1 - 1 ≡ s = omega arith in
     taken-by (withJournal c k) (mark ∷ entriesOf (c .journal)) (s + 1) (g .entries) (g .scripts)
-    ∙ (λ i. withJournal c (cutBack k (ok .exact i) (one i)))
-    ∙ (λ i. withJournal c (cut-same k (c .journal) (usedBytes (c .journal)) s (g .size) (g .kept) i))
+    ∙ (λ i. withJournal c (cutBack k (head (ok .exact i) (one i) 0)))
+    ∙ (λ i. withJournal c (cut-same k (c .journal) (head (usedBytes (c .journal)) s 0) (g .size) (g .kept) i))
     ∙ (λ i. withJournal c (sound-cut (c .table) (c .files) (c .journal) (card-parts c sound) i))
 
 -- a run: a mark, and then writes

@@ -10,7 +10,9 @@ use Rattle.card.specs.Row.{Card}
 use Rattle.card.proofs.Promises.{few-bytes, few-entries, whole-entries}
 use Rattle.journal.specs.Entries.{headSize, usedBytes, scriptsOnTrial, entryBytes, encode, mark, entriesOf, HasRoom}
 use Rattle.journal.specs.Sound.{soundCard}
-use Rattle.journal.specs.Changes.{Memory, fileMemory, tableMemory, Write, memoryOf, withJournal, marked, withMark, entryFor, write, perform, cost, bytesTaken}
+use Rattle.journal.specs.declared.Memory.{Memory}
+use Rattle.journal.specs.declared.Memory.the-variants.{Files, Table}
+use Rattle.journal.specs.Changes.{Write, memoryOf, withJournal, marked, withMark, entryFor, write, perform, cost, bytesTaken}
 use Rattle.journal.proofs.Tails.{encode-length}
 use Rattle.journal.proofs.Memories.{memory-beside, put, put-length, after, write-put, write-journal}
 use Rattle.journal.proofs.Pushed.{Grown, pushed-grown, marked-grown}
@@ -27,8 +29,8 @@ pub record Writable (c : Card) : Type 0 where
 module _ (c : Card) (sound : soundCard c ≡ true) where
   sound-near : (m : Memory) → length (memoryOf m c) ≤ 65535
   unfolding memoryOf
-  sound-near fileMemory = omega (arith, few-bytes (c .table) (c .files) (card-table c sound))
-  sound-near tableMemory =
+  sound-near Files = omega (arith, few-bytes (c .table) (c .files) (card-table c sound))
+  sound-near Table =
       omega (arith, few-entries (c .table) (c .files) (card-table c sound), whole-entries (c .table) (c .files) (card-table c sound))
 
   pub sound-writable : Writable c

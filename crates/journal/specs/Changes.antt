@@ -1,16 +1,16 @@
 -- What changes a card: a mark, a list of writes, a take-back, a confirmation.
-use Prim.Native.Nat.{ℕ, _+_, _-_}
+use Prim.Native.Nat.{ℕ, _+_, _-_, _≤_}
+use mathlib.Core.Path.{_≡_}
 use mathlib.Core.List.{List, [], _∷_, _++_}
 use lib.ListN.{length}
 use lib.Dec.{eqb}
 use Rattle.octets.specs.Choice.{pick}
 use Rattle.octets.specs.Bytes.{part, overwrite, zeros}
 use Rattle.card.specs.Row.{Card}
-use Rattle.journal.specs.Entries.{Entry, headSize, head, usedBytes, scriptsOnTrial, entryBytes, encode, holdsFileBytes, holdsTableByte, isMark, mark, entriesOf}
-
--- the memories that a command writes
-pub data Memory : Type 0 where
-  fileMemory tableMemory : Memory
+use Rattle.journal.specs.declared.Head.{Head}
+use Rattle.journal.specs.declared.Memory.{Memory}
+use Rattle.journal.specs.declared.Memory.the-variants.{Files, Table}
+use Rattle.journal.specs.Entries.{Entry, headSize, head, headBytes, headOf, usedBytes, scriptsOnTrial, flagOf, entryBytes, encode, holdsFileBytes, holdsTableByte, isMark, mark, entriesOf}
 
 -- a write: the memory, the place in it, the new bytes
 pub record Write : Type 0 where
@@ -20,28 +20,28 @@ pub record Write : Type 0 where
 
 -- a memory of a card
 unfoldable pub memoryOf : Memory → Card → List ℕ
-memoryOf fileMemory c = c .files
-memoryOf tableMemory c = c .table
+memoryOf Files c = c .files
+memoryOf Table c = c .table
 
 -- a card whose journal, or one of the memories, is another
 unfoldable pub withJournal : Card → List ℕ → Card
 withJournal c j = record { table = c .table; files = c .files; journal = j }
 
 unfoldable pub withMemory : Memory → Card → List ℕ → Card
-withMemory fileMemory c m = record { table = c .table; files = m; journal = c .journal }
-withMemory tableMemory c m = record { table = m; files = c .files; journal = c .journal }
+withMemory Files c m = record { table = c .table; files = m; journal = c .journal }
+withMemory Table c m = record { table = m; files = c .files; journal = c .journal }
 
--- the journal with one more entry behind its first u bytes of entries, and so many scripts on trial
-unfoldable pub pushedAt : List ℕ → ℕ → ℕ → Entry → List ℕ
-pushedAt j u scripts e =
-    overwrite
-    (overwrite j (headSize + u) (encode e))
-    0
-    (head (u + length (encode e)) scripts 0)
+-- a head with n bytes of entries more
+abbrev pub headAfter : Head → ℕ → Head
+headAfter h n = head (h .used + n) (h .scripts) (h .flag)
 
--- the journal with one more entry
+-- the journal with one more entry, and with `scripts` scripts on trial
 unfoldable pub pushed : List ℕ → ℕ → Entry → List ℕ
-pushed j scripts e = pushedAt j (usedBytes j) scripts e
+pushed j scripts e =
+    overwrite
+    (overwrite j (headSize + usedBytes j) (encode e))
+    0
+    (headBytes (head (usedBytes j + length (encode e)) scripts (flagOf j)))
 
 -- "Each accepted run appends a mark (8 bytes)."
 unfoldable pub marked : List ℕ → List ℕ
@@ -53,8 +53,8 @@ withMark c = withJournal c (marked (c .journal))
 
 -- the kind of entry that holds a memory's old bytes
 unfoldable pub kindFor : Memory → ℕ
-kindFor fileMemory = holdsFileBytes
-kindFor tableMemory = holdsTableByte
+kindFor Files = holdsFileBytes
+kindFor Table = holdsTableByte
 
 -- the entry of a write: the old bytes at its place
 unfoldable pub entryFor : Write → Card → Entry
@@ -72,6 +72,15 @@ write w c =
     (withJournal c (pushed (c .journal) (scriptsOnTrial (c .journal)) (entryFor w c)))
     (overwrite (memoryOf (w .memory) c) (w .place) (w .new))
 
+-- what a write asks for, of n bytes at an offset in a part of a memory: the part lies in the memory and the bytes in the part, the head
+-- is the journal's, and the journal, whose used bytes are a 16-bit number, has room for the entry
+pub record WriteFits (memory journal : List ℕ) (h : Head) (start size offset n : ℕ) : Type 0 where
+  pub inside : start + size ≤ length memory
+  pub within : offset + n ≤ size
+  pub head : h ≡ headOf journal
+  pub short : length journal ≤ 65535
+  pub left : headSize + h .used + entryBytes n ≤ length journal
+
 -- a list of writes, the first one first
 unfoldable pub perform : List Write → Card → Card
 perform [] c = c
@@ -84,7 +93,7 @@ cost (w ∷ ws) = entryBytes (length (w .new)) + cost ws
 
 -- the memory that an entry's bytes came from
 unfoldable pub memoryFor : Entry → Memory
-memoryFor e = pick (eqb (e .kind) holdsTableByte) tableMemory fileMemory
+memoryFor e = pick (eqb (e .kind) holdsTableByte) Table Files
 
 -- an entry's old bytes are given back
 unfoldable pub restoreOne : Entry → Card → Card
@@ -110,16 +119,16 @@ unfoldable pub bytesTaken : List Entry → ℕ
 bytesTaken [] = 0
 bytesTaken (e ∷ es) = entryBytes (length (e .old)) + bytesTaken es
 
--- a journal of which the first u bytes of entries are left, and so many scripts on trial; the rest is zero
-unfoldable pub cutBack : List ℕ → ℕ → ℕ → List ℕ
-cutBack j u scripts = head u scripts 0 ++ (part j headSize u ++ zeros (length j - (headSize + u)))
+-- a journal cut back to a head: the bytes of entries that it counts are left, the rest is zero
+unfoldable pub cutBack : List ℕ → Head → List ℕ
+cutBack j h = headBytes h ++ (part j headSize (h .used) ++ zeros (length j - (headSize + h .used)))
 
 -- "A take-back restores entries newest first to the newest mark, drops it and zeros the freed bytes."
 unfoldable pub takenBack : Card → Card
 takenBack c =
     withJournal
     (restore (sinceMark (entriesOf (c .journal))) c)
-    (cutBack (c .journal) (bytesTaken (behindMark (entriesOf (c .journal)))) (scriptsOnTrial (c .journal) - 1))
+    (cutBack (c .journal) (head (bytesTaken (behindMark (entriesOf (c .journal)))) (scriptsOnTrial (c .journal) - 1) 0))
 
 -- "A confirmation zeros the journal."
 unfoldable pub confirmed : Card → Card

@@ -5,14 +5,18 @@ use mathlib.Core.List.{List, [], _∷_, _++_}
 use lib.ListN.{length}
 use lib.Dec.{leb, eqb}
 use Rattle.octets.specs.Bytes.{byte, numAt, bytes2, part, same}
+use Rattle.journal.specs.declared.Head.{Head}
 use Rattle.journal.specs.declared.Tail.{Tail}
 
--- the head's four bytes
+-- the head, and its four bytes
+abbrev pub head : ℕ → ℕ → ℕ → Head
+head used scripts flag = record { used = used; scripts = scripts; flag = flag }
+
 abbrev pub headSize : ℕ
 headSize = 4
 
-unfoldable pub head : ℕ → ℕ → ℕ → List ℕ
-head used scripts flag = bytes2 used ++ (scripts ∷ flag ∷ [])
+unfoldable pub headBytes : Head → List ℕ
+headBytes h = bytes2 (h .used) ++ (h .scripts ∷ h .flag ∷ [])
 
 -- "used bytes U"
 unfoldable pub usedBytes : List ℕ → ℕ
@@ -21,6 +25,14 @@ usedBytes j = numAt j 0
 -- "scripts on trial"
 unfoldable pub scriptsOnTrial : List ℕ → ℕ
 scriptsOnTrial j = byte j 2
+
+-- "3 zero"
+unfoldable pub flagOf : List ℕ → ℕ
+flagOf j = byte j 3
+
+-- what a journal's head holds
+abbrev pub headOf : List ℕ → Head
+headOf j = head (usedBytes j) (scriptsOnTrial j) (flagOf j)
 
 -- the most that U can be: what is left of the journal behind its head
 unfoldable pub room : List ℕ → ℕ

@@ -11,7 +11,7 @@ use Rattle.card.specs.declared.Row.{Row}
 use Rattle.card.specs.Row.{Card, entrySize, entries, rowOf, newestByte, stateByte, isCyclic, isFile}
 use Rattle.card.specs.Sound.{newestSound, stateSound, soundTable}
 use Rattle.card.specs.Tree.{isRoot}
-use Rattle.journal.specs.Entries.{Entry, headSize, head, usedBytes, scriptsOnTrial, room, marksStart, holdsFileBytes, holdsTableByte, isMark, entriesOf}
+use Rattle.journal.specs.Entries.{Entry, headSize, head, headBytes, usedBytes, scriptsOnTrial, room, entryBytes, marksStart, holdsFileBytes, holdsTableByte, isMark, entriesOf}
 
 -- "The journal has 2,048 bytes"
 abbrev pub journalLength : ℕ
@@ -28,9 +28,13 @@ mostOldBytes = 255
 -- the head: U at most the room, the scripts at most 16, byte 3 zero; "after them only zeros"
 unfoldable pub headSound : List ℕ → Bool
 headSound j =
-    same (part j 0 headSize) (head (usedBytes j) (scriptsOnTrial j) 0)
+    same (part j 0 headSize) (headBytes (head (usedBytes j) (scriptsOnTrial j) 0))
     && (leb (usedBytes j) (room j)
     && (leb (scriptsOnTrial j) mostScripts && allZero (drop (headSize + usedBytes j) j)))
+
+-- a journal has room for a mark, which it has not with "16 scripts on trial, or U + 8 above 2,044"
+unfoldable pub markFits : List ℕ → Bool
+markFits j = ltb (scriptsOnTrial j) mostScripts && leb (usedBytes j + entryBytes 0) (room j)
 
 -- "kind 3 one table byte, which is byte 10 of a file, or byte 9 of a cyclic file, with an old value sound there"
 unfoldable pub tableByteSound : Row → ℕ → ℕ → Bool

@@ -3,9 +3,8 @@ use crate::HEAD_SIZE;
 use crate::HOLDS_TABLE_BYTE;
 use crate::MARKS_START;
 use crate::TAIL_SIZE;
-use crate::read::scripts_on_trial;
+use crate::read::head_of;
 use crate::read::tail_at;
-use crate::read::used_bytes;
 ghost use mathlib.Core.Path.{_≡_};
 ghost use mathlib.Core.Bool.{true};
 ghost use Prim.Native.Nat.{_+_, _≤_};
@@ -55,11 +54,10 @@ pub fn take_back(table: &mut [u8], files: &mut [u8], journal: &mut [u8])
     requires { ⌜ (soundCard (lent (now table) (now files) (now journal)) ≡ true) × (1 ≤ scriptsOnTrial (now journal)) ⌝ }
     ensures { λ _. ⌜ lent (now (table .exit)) (now (files .exit)) (now (journal .exit)) ≡ takenBack (lent (now (table .entry)) (now (files .entry)) (now (journal .entry))) ⌝ }
 {
-    let used = used_bytes(journal);
-    let scripts = scripts_on_trial(journal);
-    let u = restore_to_mark(table, files, journal, used);
-    octets::put_head(journal, u, (scripts - 1) as u8, 0);
-    octets::fill(journal, HEAD_SIZE + u, used - u, 0);
+    let head = head_of(journal);
+    let u = restore_to_mark(table, files, journal, head.used);
+    octets::put_head(journal, u, head.scripts - 1, 0);
+    octets::fill(journal, HEAD_SIZE + u, head.used - u, 0);
 }
 
 // All scripts of a journal that is zero behind its used bytes are confirmed: the head, then the rest.
@@ -67,7 +65,7 @@ pub fn confirm(journal: &mut [u8])
     requires { ⌜ (4 + usedBytes (now journal) ≤ length (now journal)) × (allZero (drop (4 + usedBytes (now journal)) (now journal)) ≡ true) ⌝ }
     ensures { λ _. ⌜ now (journal .exit) ≡ zeros (length (now (journal .entry))) ⌝ }
 {
-    let used = used_bytes(journal);
+    let head = head_of(journal);
     octets::put_head(journal, 0, 0, 0);
-    octets::fill(journal, HEAD_SIZE, used, 0);
+    octets::fill(journal, HEAD_SIZE, head.used, 0);
 }

@@ -1,34 +1,44 @@
 // Reading the journal's head and, back from the end, its entries.
 use crate::HEAD_SIZE;
+use crate::Head;
+use crate::MOST_SCRIPTS;
 use crate::TAIL_SIZE;
 use crate::Tail;
+use crate::entry_bytes;
 ghost use mathlib.Core.Path.{_≡_};
 ghost use Prim.Native.Nat.{_+_, _≤_, _<_};
 ghost use lib.ListN.{length};
-ghost use Rattle.journal.specs.Entries.{usedBytes, scriptsOnTrial, room, tailIn, tailAt, formed, readable};
+ghost use Rattle.journal.specs.Entries.{headOf, room, tailIn, tailAt, formed, readable};
+ghost use Rattle.journal.specs.Sound.{markFits};
 
-// The used bytes U.
-pub fn used_bytes(journal: &[u8]) -> usize
+// Returns what the journal's head holds.
+pub fn head_of(journal: &[u8]) -> Head
     requires { ⌜ 4 ≤ length (now journal) ⌝ }
-    ensures { λ r. ⌜ (r ≡ usedBytes (now (journal .entry))) × (r < 65536) ⌝ }
+    ensures { λ r. ⌜ (r ≡ headOf (now (journal .entry))) × (r .used < 65536) ⌝ }
 {
-    octets::num_at(journal, 0)
+    Head {
+        used: octets::num_at(journal, 0),
+        scripts: journal[2],
+        flag: journal[3],
+    }
 }
 
-// The scripts on trial.
-pub fn scripts_on_trial(journal: &[u8]) -> usize
-    requires { ⌜ 4 ≤ length (now journal) ⌝ }
-    ensures { λ r. ⌜ (r ≡ scriptsOnTrial (now (journal .entry))) × (r < 256) ⌝ }
-{
-    octets::wide(journal[2])
-}
-
-// The most that U can be.
+// Returns the most that U can be.
 pub fn room_of(journal: &[u8]) -> usize
     requires { ⌜ 4 ≤ length (now journal) ⌝ }
     ensures { λ r. ⌜ r ≡ room (now (journal .entry)) ⌝ }
 {
     journal.len() - HEAD_SIZE
+}
+
+// Returns whether the journal has room for one more mark.
+pub fn mark_fits(journal: &[u8]) -> bool
+    requires { ⌜ 4 ≤ length (now journal) ⌝ }
+    ensures { λ b. ⌜ b ≡ markFits (now (journal .entry)) ⌝ }
+{
+    let head = head_of(journal);
+    let scripts = octets::wide(head.scripts);
+    (scripts < MOST_SCRIPTS) & (head.used + entry_bytes(0) <= room_of(journal))
 }
 
 // What the eight bytes of a tail hold.

@@ -6,10 +6,10 @@ use crate::JOURNAL_LENGTH;
 use crate::MARKS_START;
 use crate::MOST_SCRIPTS;
 use crate::TAIL_SIZE;
+use crate::read::head_of;
 use crate::read::is_readable;
-use crate::read::scripts_on_trial;
+use crate::read::room_of;
 use crate::read::tail_at;
-use crate::read::used_bytes;
 use card::Row;
 ghost use mathlib.Core.Path.{_≡_};
 ghost use mathlib.Core.Bool.{true};
@@ -123,14 +123,15 @@ pub fn sound_journal(table: &[u8], files: &[u8], journal: &[u8]) -> bool
     if journal.len() != JOURNAL_LENGTH {
         return false;
     }
-    if journal[3] != 0 {
+    let head = head_of(journal);
+    if head.flag != 0 {
         return false;
     }
-    let used = used_bytes(journal);
-    if JOURNAL_LENGTH - HEAD_SIZE < used {
+    let used = head.used;
+    if room_of(journal) < used {
         return false;
     }
-    let scripts = scripts_on_trial(journal);
+    let scripts = octets::wide(head.scripts);
     if MOST_SCRIPTS < scripts {
         return false;
     }

@@ -2,17 +2,19 @@
 use crate::HEAD_SIZE;
 use crate::HOLDS_FILE_BYTES;
 use crate::HOLDS_TABLE_BYTE;
+use crate::Head;
 use crate::MARKS_START;
-use crate::TAIL_SIZE;
+use crate::Memory;
+use crate::entry_bytes;
+use crate::read::head_of;
 ghost use mathlib.Core.Path.{_≡_};
-ghost use mathlib.Core.List.{[], _∷_};
 ghost use Prim.Native.Nat.{_+_, _≤_, _<_};
 ghost use lib.ListN.{length};
 ghost use Rattle.octets.specs.Bytes.{part, overwrite};
-ghost use Rattle.journal.specs.Entries.{entryOf, head, tail, mark, holdsFileBytes, holdsTableByte};
-ghost use Rattle.journal.specs.Changes.{pushedAt};
+ghost use Rattle.journal.specs.Entries.{HasRoom, entryBytes, entryOf, headOf, headBytes, scriptsOnTrial, tail};
+ghost use Rattle.journal.specs.Changes.{headAfter, kindFor, marked, pushed, WriteFits};
 
-// The eight bytes of a tail.
+// Returns the eight bytes of a tail.
 fn tail_bytes(kind: u8, place: usize, n: usize) -> [u8; 8]
     ensures { λ r. ⌜ r ≡ tail kind place n ⌝ }
 {
@@ -28,66 +30,71 @@ fn tail_bytes(kind: u8, place: usize, n: usize) -> [u8; 8]
     ]
 }
 
-// The entry that begins behind the first `used` bytes of entries and whose n old bytes stand there is closed, with so many scripts on trial: tail, head.
-fn close(journal: &mut [u8], used: usize, scripts: u8, kind: u8, place: usize, n: usize)
-    requires { ⌜ 4 + used + (8 + n) ≤ length (now journal) ⌝ }
-    ensures { λ _. ⌜ now (journal .exit) ≡ overwrite (overwrite (now (journal .entry)) (4 + used + n) (tail kind place n)) 0 (head (used + (8 + n)) scripts 0) ⌝ }
+// Closes the entry whose n old bytes stand behind those that the head counts: writes its tail, then the head, and returns the head after it.
+fn close(journal: &mut [u8], head: Head, kind: u8, place: usize, n: usize) -> Head
+    requires { ⌜ 4 + head .used + entryBytes n ≤ length (now journal) ⌝ }
+    ensures { λ r. ⌜ (now (journal .exit) ≡ overwrite (overwrite (now (journal .entry)) (4 + head .used + n) (tail kind place n)) 0 (headBytes (headAfter head (entryBytes n)))) × (r ≡ headAfter head (entryBytes n)) ⌝ }
 {
     let tail = tail_bytes(kind, place, n);
-    octets::copy(journal, HEAD_SIZE + used + n, &tail);
-    octets::put_head(journal, used + (TAIL_SIZE + n), scripts, 0);
+    octets::copy(journal, HEAD_SIZE + head.used + n, &tail);
+    let used = head.used + entry_bytes(n);
+    octets::put_head(journal, used, head.scripts, head.flag);
+    Head {
+        used,
+        scripts: head.scripts,
+        flag: head.flag,
+    }
 }
 
-// A script's mark, with so many scripts on trial after it.
-pub fn push_mark(journal: &mut [u8], used: usize, scripts: u8)
-    requires { ⌜ 4 + used + 8 ≤ length (now journal) ⌝ }
-    ensures { λ _. ⌜ now (journal .exit) ≡ pushedAt (now (journal .entry)) used scripts mark ⌝ }
+// Appends a script's mark: there is one script more on trial after it.
+pub fn mark(journal: &mut [u8])
+    requires { ⌜ HasRoom (now journal) (entryBytes 0) × (scriptsOnTrial (now journal) < 255) ⌝ }
+    ensures { λ _. ⌜ now (journal .exit) ≡ marked (now (journal .entry)) ⌝ }
 {
-    close(journal, used, scripts, MARKS_START as u8, 0, 0);
+    let head = head_of(journal);
+    let next = Head {
+        used: head.used,
+        scripts: head.scripts + 1,
+        flag: head.flag,
+    };
+    close(journal, next, MARKS_START as u8, 0, 0);
 }
 
-// Bytes are written into a file, with its start and size, at an offset in it: the journal gets the old bytes whole, with tail and head, before the file gets the new ones.
-pub fn write_file(
-    files: &mut [u8],
+// Returns the kind of entry that holds a memory's old bytes.
+fn kind_for(which: Memory) -> u8
+    ensures { λ r. ⌜ r ≡ kindFor which ⌝ }
+{
+    match which {
+        Memory::Files => HOLDS_FILE_BYTES as u8,
+        Memory::Table => HOLDS_TABLE_BYTE as u8,
+    }
+}
+
+// Writes new bytes at an offset in a part of a memory, given by its start and size: the journal gets the old bytes, their tail and the head
+// before the part gets the new bytes. Returns the journal's head after it.
+pub fn write(
+    memory: &mut [u8],
     journal: &mut [u8],
-    used: usize,
-    scripts: u8,
+    head: Head,
+    which: Memory,
     start: usize,
     size: usize,
     offset: usize,
     new: &[u8],
-)
-    requires { ⌜ (start + size ≤ length (now files)) × (offset + length (now new) ≤ size) × (4 + used + (8 + length (now new)) ≤ length (now journal)) ⌝ }
-    ensures { λ _. ⌜ (now (files .exit) ≡ overwrite (now (files .entry)) (start + offset) (now (new .entry)))
-        × (now (journal .exit) ≡ pushedAt (now (journal .entry)) used scripts (entryOf holdsFileBytes (start + offset) (part (now (files .entry)) (start + offset) (length (now (new .entry)))))) ⌝ }
+) -> Head
+    requires { ⌜ WriteFits (now memory) (now journal) head start size offset (length (now new)) ⌝ }
+    ensures { λ r. ⌜ (now (memory .exit) ≡ overwrite (now (memory .entry)) (start + offset) (now (new .entry)))
+        × (now (journal .exit) ≡ pushed (now (journal .entry)) (scriptsOnTrial (now (journal .entry))) (entryOf (kindFor which) (start + offset) (part (now (memory .entry)) (start + offset) (length (now (new .entry))))))
+        × (r ≡ headOf (now (journal .exit))) ⌝ }
 {
     let place = start + offset;
-    octets::copy(journal, HEAD_SIZE + used, &files[place..place + new.len()]);
-    close(
+    let kind = kind_for(which);
+    octets::copy(
         journal,
-        used,
-        scripts,
-        HOLDS_FILE_BYTES as u8,
-        place,
-        new.len(),
+        HEAD_SIZE + head.used,
+        &memory[place..place + new.len()],
     );
-    octets::copy(&mut files[start..start + size], offset, new);
-}
-
-// A byte of the table is written: the journal gets the old byte, with tail and head, before the table gets the new one.
-pub fn write_table(
-    table: &mut [u8],
-    journal: &mut [u8],
-    used: usize,
-    scripts: u8,
-    place: usize,
-    new: u8,
-)
-    requires { ⌜ (place < length (now table)) × (4 + used + 9 ≤ length (now journal)) ⌝ }
-    ensures { λ _. ⌜ (now (table .exit) ≡ overwrite (now (table .entry)) place (new ∷ []))
-        × (now (journal .exit) ≡ pushedAt (now (journal .entry)) used scripts (entryOf holdsTableByte place (part (now (table .entry)) place 1))) ⌝ }
-{
-    octets::copy(journal, HEAD_SIZE + used, &table[place..place + 1]);
-    close(journal, used, scripts, HOLDS_TABLE_BYTE as u8, place, 1);
-    octets::fill(table, place, 1, new);
+    let next = close(journal, head, kind, place, new.len());
+    octets::copy(&mut memory[start..start + size], offset, new);
+    next
 }

@@ -13,6 +13,10 @@ byte m at = getD m at 0
 abbrev pub AllBytes : List ℕ → Type 0
 AllBytes m = (i : ℕ) → byte m i < 256
 
+-- a number that a word of the machine holds: 64 bits
+abbrev pub InWord : ℕ → Type 0
+InWord n = n < 18446744073709551616
+
 -- the n bytes from a place on, or as many of them as there are
 abbrev pub part : List ℕ → ℕ → ℕ → List ℕ
 part m at n = take n (drop at m)

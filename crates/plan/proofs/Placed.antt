@@ -15,7 +15,8 @@ use Rattle.card.specs.Records.{recordPlace, recordOffset, oldestPlace}
 use Rattle.card.proofs.Promises.{records-file, file-inside, record-some, record-short, records-some, entry-own}
 use Rattle.card.proofs.Places.{place-below, place-inside, offset-inside}
 use Rattle.journal.specs.Sound.{tableByteSound, tablePlaceSound, formSound}
-use Rattle.journal.specs.Changes.{tableMemory, kindFor}
+use Rattle.journal.specs.declared.Memory.the-variants.{Table}
+use Rattle.journal.specs.Changes.{kindFor}
 use Rattle.journal.proofs.Kept.{FormSound, AllForms}
 use Rattle.plan.specs.Files.{fileAt, writeIn, newRecord}
 
@@ -46,7 +47,7 @@ module _ (card : Card) (sound : soundTable (card .table) (card .files) ≡ true)
       let m : (16 * e + k) % 16 ≡ k = omega arith in
       rw (q, m) (and-both _ _ (lt-ltb e (entries (card .table)) here) ok)
 
-  pub in-state : isFile r ≡ true → (v : ℕ) → stateSound v ≡ true → FormSound (record { memory = tableMemory; place = placeOfState e; new = v ∷ [] }) card
+  pub in-state : isFile r ≡ true → (v : ℕ) → stateSound v ≡ true → FormSound (record { memory = Table; place = placeOfState e; new = v ∷ [] }) card
   unfolding kindFor formSound tableByteSound pick
   in-state file v ok = in-entry 10 v (omega arith) (and-both _ _ file ok)
 

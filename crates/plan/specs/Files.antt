@@ -9,8 +9,9 @@ use Rattle.card.specs.declared.Row.{Row}
 use Rattle.card.specs.Row.{Card, rowOf, isCyclic, placeOfNewest}
 use Rattle.card.specs.Sound.{recordCount}
 use Rattle.card.specs.Records.{recordOffset, oldestPlace}
+use Rattle.journal.specs.declared.Memory.the-variants.{Files, Table}
 use Rattle.journal.specs.Entries.{usedBytes, room}
-use Rattle.journal.specs.Changes.{Write, fileMemory, tableMemory}
+use Rattle.journal.specs.Changes.{Write}
 use Rattle.session.specs.declared.Standing.{Standing}
 use Rattle.session.specs.Session.{none}
 use Rattle.command.specs.Instructions as ins
@@ -116,13 +117,13 @@ sum r content «data» = value (recordBytes r content 1) + value «data»
 
 -- bytes written into a file, at an offset in it
 unfoldable pub writeIn : File → ℕ → List ℕ → Write
-writeIn f offset new = record { memory = fileMemory; place = f .row .start + offset; new = new }
+writeIn f offset new = record { memory = Files; place = f .row .start + offset; new = new }
 
 -- "DC on cyclic: .. it writes the oldest place, which becomes newest"
 unfoldable pub newRecord : File → List ℕ → List Write
 newRecord f new =
     writeIn f (f .row .«record» * oldestPlace (f .row)) new
-    ∷ record { memory = tableMemory; place = placeOfNewest (f .entry); new = oldestPlace (f .row) ∷ [] }
+    ∷ record { memory = Table; place = placeOfNewest (f .entry); new = oldestPlace (f .row) ∷ [] }
     ∷ []
 
 -- "sum too long 9850": it has no room in the record's bytes

@@ -9,7 +9,7 @@ use Rattle.card.specs.declared.tree.Found.{Found}
 use Rattle.card.specs.declared.tree.Found.the-variants.{At, Nothing}
 use Rattle.card.specs.Row.{isCyclic, isDeactivated, activated, deactivated, placeOfState}
 use Rattle.card.specs.Records.{recordOffset}
-use Rattle.journal.specs.Changes.{tableMemory}
+use Rattle.journal.specs.declared.Memory.the-variants.{Table}
 use Rattle.session.specs.declared.Standing.{Standing}
 use Rattle.session.specs.Session.{atRecord, selected}
 use Rattle.session.specs.Fcp.{fcp}
@@ -116,7 +116,7 @@ increase format «data» s f =
 -- "04, 44 .. deactivate, activate the current file; repeating it is 9000, journalled too."
 unfoldable pub switch : ℕ → Standing → File → Plan
 switch state s f =
-    done s normal (record { memory = tableMemory; place = placeOfState (f .entry); new = state ∷ [] } ∷ [])
+    done s normal (record { memory = Table; place = placeOfState (f .entry); new = state ∷ [] } ∷ [])
 
 -- "C0 GET RESPONSE (compact): the first P3 waiting bytes, 00 all, with the kept word."
 unfoldable pub getResponse : Command → Standing → Plan

@@ -2,13 +2,16 @@
 use Prim.Native.Nat.{ℕ, _+_, _*_, _≤_, _<_}
 use mathlib.Core.List.{List, [], _∷_}
 use mathlib.Core.Path.{_≡_}
-use lib.ListN.{take}
+use lib.ListN.{length, take}
 use Rattle.octets.specs.Choice.{pick}
 use Rattle.card.specs.declared.Row.{Row}
 use Rattle.card.specs.Row.{Narrow, isCyclic, placeOfNewest}
 use Rattle.card.specs.Sound.{recordCount}
 use Rattle.card.specs.Records.{recordOffset, oldestPlace}
-use Rattle.journal.specs.Changes.{Write, fileMemory, tableMemory}
+use Rattle.journal.specs.declared.Memory.the-variants.{Files, Table}
+use Rattle.journal.specs.declared.Head.{Head}
+use Rattle.journal.specs.Changes.{Write, cost}
+use Rattle.journal.specs.Entries.{headOf, HasRoom}
 use Rattle.session.specs.declared.Standing.{Standing}
 use Rattle.command.specs.declared.Command.{Command}
 use Rattle.command.specs.declared.checks.Check.the-variants.{SumTooLong}
@@ -31,18 +34,18 @@ pub record Recorded (files : ℕ) (r : Row) : Type 0 where
 -- the writes of a new record
 unfoldable pub recordWrites : NewRecord → List ℕ → List Write
 recordWrites r new =
-    record { memory = fileMemory; place = r .start + r .«record» * r .place; new = new }
-    ∷ record { memory = tableMemory; place = placeOfNewest (r .entry); new = r .place ∷ [] }
+    record { memory = Files; place = r .start + r .«record» * r .place; new = new }
+    ∷ record { memory = Table; place = placeOfNewest (r .entry); new = r .place ∷ [] }
     ∷ []
 
 -- the writes of a change, with the command's data and the bytes that it made
 unfoldable pub writesOf : Change → List ℕ → List ℕ → List Write
 writesOf Nothing «data» bytes = []
 writesOf (Content start size offset) «data» bytes =
-    record { memory = fileMemory; place = start + offset; new = «data» } ∷ []
+    record { memory = Files; place = start + offset; new = «data» } ∷ []
 writesOf (DataRecord r) «data» bytes = recordWrites r «data»
 writesOf (SumRecord r) «data» bytes = recordWrites r (take (r .«record») bytes)
-writesOf (TableByte place new) «data» bytes = record { memory = tableMemory; place = place; new = new ∷ [] } ∷ []
+writesOf (TableByte place new) «data» bytes = record { memory = Table; place = place; new = new ∷ [] } ∷ []
 
 -- the plan of a decision, with the command's data and the bytes at whose start stands what it made
 unfoldable pub planOf : Decision → List ℕ → List ℕ → Plan
@@ -60,6 +63,14 @@ pub record RecordFits (table files : ℕ) (r : NewRecord) : Type 0 where
   pub inside : r .«record» * r .place + r .«record» ≤ r .size
   pub entry : placeOfNewest (r .entry) < table
   pub byte : r .place < 256
+
+-- what writing a new record asks for: it lies inside the card, its bytes are a record, and the journal, whose head is given, has room for its writes
+pub record WriteRecordFits (table files journal : List ℕ) (h : Head) (r : NewRecord) (new : List ℕ) : Type 0 where
+  pub fits : RecordFits (length table) (length files) r
+  pub whole : length new ≡ r .«record»
+  pub head : h ≡ headOf journal
+  pub short : length journal ≤ 65535
+  pub left : HasRoom journal (cost (recordWrites r new))
 
 -- a change lies inside a table and a file memory of so many bytes, with so many data bytes and 255 bytes for what is made
 unfoldable pub Fits : ℕ → ℕ → ℕ → Change → Type 0

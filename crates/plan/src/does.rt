@@ -211,6 +211,6 @@ pub fn switch(state: usize, s: Standing) -> Decision
     done(
         s,
         NORMAL,
-        Change::TableByte(card::ENTRY_SIZE * target(s) + card::STATE_BYTE, state),
+        Change::TableByte(card::place_of_state(target(s)), state),
     )
 }

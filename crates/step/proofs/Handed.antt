@@ -14,7 +14,9 @@ use Rattle.card.specs.declared.tree.Found.{Found}
 use Rattle.card.specs.declared.tree.Found.the-variants.{At, Nothing}
 use Rattle.card.specs.Row.{Card, isCyclic}
 use Rattle.journal.specs.Sound.{soundCard}
-use Rattle.journal.specs.Changes.{Memory, fileMemory, Write, memoryOf, write, perform}
+use Rattle.journal.specs.declared.Memory.{Memory}
+use Rattle.journal.specs.declared.Memory.the-variants.{Files}
+use Rattle.journal.specs.Changes.{Write, memoryOf, write, perform}
 use Rattle.journal.proofs.Parts.{card-table}
 use Rattle.journal.proofs.Written.{AllFit, fit-kept, write-lengths}
 use Rattle.journal.proofs.Kept.{forms-fit}
@@ -59,7 +61,7 @@ module _ (s : Standing) (card : Card) (sound : soundCard card ≡ true) (good : 
 
   pub files-kept : (waiting : List ℕ) → length (carriedOut plan waiting card .card .files) ≡ length (card .files)
   unfolding carriedOut memoryOf
-  files-kept waiting = perform-lengths (plan .writes) card (forms-fit (plan .writes) card (fit .forms)) fileMemory
+  files-kept waiting = perform-lengths (plan .writes) card (forms-fit (plan .writes) card (fit .forms)) Files
 
   pub outcome-fits : c .p3 < 256 → (waiting : List ℕ) → OutcomeFits (length (carriedOut plan waiting card .card .files)) (plan .outcome)
   outcome-fits p3 waiting = rw (files-kept waiting) (fit .outcome p3)

@@ -1,8 +1,9 @@
 // Doing what was decided: the one function that stores into a card while a script runs.
 use command::Step;
-use journal::read::used_bytes;
-use journal::write::write_file;
-use journal::write::write_table;
+use journal::Head;
+use journal::Memory;
+use journal::read::head_of;
+use journal::write::write;
 use plan::Change;
 use plan::Decision;
 use plan::NewRecord;
@@ -13,33 +14,41 @@ ghost use Rattle.card.specs.Row.{lent};
 ghost use Rattle.journal.specs.Entries.{HasRoom};
 ghost use Rattle.journal.specs.Changes as changes;
 ghost use Rattle.step.specs.Steps.{carriedOut, movedTo};
-ghost use Rattle.plan.specs.Promised.{recordWrites, writesOf, planOf, RecordFits, Fits};
+ghost use Rattle.plan.specs.Promised.{recordWrites, writesOf, planOf, WriteRecordFits, Fits};
 
-// A new record of a cyclic file: its bytes at the oldest place, then the newest place.
-fn write_record(table: &mut [u8], files: &mut [u8], journal: &mut [u8], r: NewRecord, new: &[u8])
-    requires { ⌜ RecordFits (length (now table)) (length (now files)) r × (length (now new) ≡ r .«record») × (length (now journal) < 65536) × HasRoom (now journal) (8 + r .«record» + 9) ⌝ }
+// Writes a new record of a cyclic file: its bytes at the oldest place, then the newest place.
+fn write_record(
+    table: &mut [u8],
+    files: &mut [u8],
+    journal: &mut [u8],
+    head: Head,
+    r: NewRecord,
+    new: &[u8],
+)
+    requires { ⌜ WriteRecordFits (now table) (now files) (now journal) head r (now new) ⌝ }
     ensures { λ _. ⌜ lent (now (table .exit)) (now (files .exit)) (now (journal .exit)) ≡ changes.perform (recordWrites r (now (new .entry))) (lent (now (table .entry)) (now (files .entry)) (now (journal .entry))) ⌝ }
 {
-    let used = used_bytes(journal);
-    let scripts = journal[2];
     let place = r.place;
-    write_file(
+    let next = write(
         files,
         journal,
-        used,
-        scripts,
+        head,
+        Memory::Files,
         r.start,
         r.size,
         r.record * place,
         new,
     );
-    write_table(
+    let newest = [place as u8];
+    write(
         table,
         journal,
-        used + (8 + new.len()),
-        scripts,
-        card::ENTRY_SIZE * r.entry + card::NEWEST_BYTE,
-        place as u8,
+        next,
+        Memory::Table,
+        card::place_of_newest(r.entry),
+        1,
+        0,
+        &newest,
     );
 }
 
@@ -55,24 +64,31 @@ pub fn perform(
     requires { ⌜ Fits (length (now table)) (length (now files)) (length (now «data»)) change × (length (now made) ≡ 255) × (length (now journal) < 65536) × HasRoom (now journal) (changes.cost (writesOf change (now «data») (now made))) ⌝ }
     ensures { λ _. ⌜ lent (now (table .exit)) (now (files .exit)) (now (journal .exit)) ≡ changes.perform (writesOf change (now («data» .entry)) (now (made .entry))) (lent (now (table .entry)) (now (files .entry)) (now (journal .entry))) ⌝ }
 {
+    let head = head_of(journal);
     match change {
         Change::Nothing => {}
         Change::Content(start, size, offset) => {
-            let used = used_bytes(journal);
-            let scripts = journal[2];
-            write_file(files, journal, used, scripts, start, size, offset, data);
+            write(
+                files,
+                journal,
+                head,
+                Memory::Files,
+                start,
+                size,
+                offset,
+                data,
+            );
         }
         Change::DataRecord(r) => {
-            write_record(table, files, journal, r, data);
+            write_record(table, files, journal, head, r, data);
         }
         Change::SumRecord(r) => {
             let n = r.record;
-            write_record(table, files, journal, r, &made[..n]);
+            write_record(table, files, journal, head, r, &made[..n]);
         }
         Change::TableByte(place, new) => {
-            let used = used_bytes(journal);
-            let scripts = journal[2];
-            write_table(table, journal, used, scripts, place, new as u8);
+            let byte = [new as u8];
+            write(table, journal, head, Memory::Table, place, 1, 0, &byte);
         }
     }
 }

@@ -22,20 +22,9 @@ pub fn put_lines(
     let second = put_number(out, 0, b"refusal=", refusal, b'\n');
     let third = put_number(out, second, b"executed=", executed, b'\n');
     let fourth = put_bytes(out, third, b"response=", response, b'\n');
-    let fifth = put_number(
-        out,
-        fourth,
-        b"used=",
-        journal::read::used_bytes(journal),
-        b'\n',
-    );
-    put_number(
-        out,
-        fifth,
-        b"scripts=",
-        journal::read::scripts_on_trial(journal),
-        b'\n',
-    )
+    let head = journal::read::head_of(journal);
+    let fifth = put_number(out, fourth, b"used=", head.used, b'\n');
+    put_number(out, fifth, b"scripts=", octets::wide(head.scripts), b'\n')
 }
 
 // Puts the one line for an input of another shape at the start of `out`, and gives the place behind it.

@@ -11,6 +11,7 @@ use borrow.Author.Tests.{ne-eqb}
 use lib.ListN.{length}
 use Rattle.card.specs.Row.{Card, lent}
 use Rattle.card.proofs.Promises.{few-entries}
+use Rattle.journal.proofs.Pushed.{own-used}
 use Rattle.session.proofs.Template.{fcp-fits}
 use Rattle.session.proofs.Owned.{parents-inside}
 use Rattle.session.proofs.Good.{find-belongs}
@@ -178,8 +179,8 @@ returns-4 c =
     (c .get-response .ensures .1)
 
 -- the journal is read: what `with_room` asks, and what comes of it
-used-bytes-requires : tie.Need-used-bytes-requires
-used-bytes-requires c κs = let h = journal-parts (start (c .before .before) .pre .0) .size in omega arith
+head-of-requires : tie.Need-head-of-requires
+head-of-requires c κs = let h = journal-parts (start (c .before .before) .pre .0) .size in omega arith
 
 room-of-requires : tie.Need-room-of-requires
 room-of-requires c κs = let h = journal-parts (start (c .before .before .before) .pre .0) .size in omega arith
@@ -188,19 +189,19 @@ module _ (c : tie.After-room-of) where
   abbrev origin : tie.Start
   origin = start (known c)
 
-  roomy : (change : Change) → Fits (length (origin .args .table .now)) (length (origin .args .files .now)) (length (origin .args .«data» .now)) change → (length (origin .args .«data» .now) < 256) × (c .before .used-bytes .result < 65536) × (c .before .used-bytes .result ≤ c .room-of .result) × Brief change
+  roomy : (change : Change) → Fits (length (origin .args .table .now)) (length (origin .args .files .now)) (length (origin .args .«data» .now)) change → (length (origin .args .«data» .now) < 256) × (c .before .head-of .result .used < 65536) × (c .before .head-of .result .used ≤ c .room-of .result) × Brief change
   roomy change h = (
     origin .pre .0 .bytes .brief,
-    c .before .used-bytes .ensures .1,
-    rw (c .before .used-bytes .ensures .0, c .room-of .ensures) (journal-parts (origin .pre .0) .used),
+    c .before .head-of .ensures .1,
+    rw (own-used _ (c .before .head-of .ensures .0), c .room-of .ensures) (journal-parts (origin .pre .0) .used),
     fits-brief _ _ _ change h,
   )
 
-  roomed-so : {bytes : List ℕ} {d e : Decision} → length bytes ≡ 255 → Unroomed (origin .args .format) (origin .args .domain) (origin .args .c) (origin .args .«data» .now) (origin .args .s) (origin .args .table .now) (origin .args .files .now) bytes d → WithRoom d (origin .args .s) (length (origin .args .«data» .now)) (c .before .used-bytes .result) (c .room-of .result) e → Decided (cardOf origin) (origin .args .«data» .now) bytes (planned (whole origin)) e
+  roomed-so : {bytes : List ℕ} {d e : Decision} → length bytes ≡ 255 → Unroomed (origin .args .format) (origin .args .domain) (origin .args .c) (origin .args .«data» .now) (origin .args .s) (origin .args .table .now) (origin .args .files .now) bytes d → WithRoom d (origin .args .s) (length (origin .args .«data» .now)) (c .before .head-of .result .used) (c .room-of .result) e → Decided (cardOf origin) (origin .args .«data» .now) bytes (planned (whole origin)) e
   roomed-so {bytes} =
       let a = origin .args in
       let at-response = c .before .before in
-      room-decided (a .format) (a .domain) (a .c) (a .«data» .now) (a .s) (a .table .now) (a .files .now) (a .journal .now) bytes (origin .pre .0) (ne-eqb _ _ (at-response .before .if1 .left)) (ne-eqb _ _ (at-response .if2 .left)) (c .before .used-bytes .ensures .0) (c .room-of .ensures)
+      room-decided (a .format) (a .domain) (a .c) (a .«data» .now) (a .s) (a .table .now) (a .files .now) (a .journal .now) bytes (origin .pre .0) (ne-eqb _ _ (at-response .before .if1 .left)) (ne-eqb _ _ (at-response .if2 .left)) (own-used _ (c .before .head-of .ensures .0)) (c .room-of .ensures)
 
 -- READ BINARY
 read-binary-requires : tie.Need-read-binary-requires
@@ -373,7 +374,7 @@ decide-spec =
     enum-told-2
     get-response-requires
     returns-4
-    used-bytes-requires
+    head-of-requires
     room-of-requires
     read-binary-requires
     with-room-requires

@@ -3,10 +3,9 @@ use mathlib.Core.Path.{_≡_, sym, _∙_}
 use native.Mathlib.Omega.{arith}
 use borrow.Author.Needs.{needs}
 use Rattle.card.specs.Row.{Card, lent}
-use Rattle.journal.specs.Changes.{marked}
 use Rattle.engine.specs.Numbers.{Arguments, firstGiven, runRefusals}
 use Rattle.engine.proofs.Answers.{answers-number}
-use Rattle.engine.proofs.Accepted.{journal-whole, mark-room, scripts-byte, script-starts, accepted-run, is-marked, refused-run, compact-script, expanded-script}
+use Rattle.engine.proofs.Accepted.{may-mark, script-starts, accepted-run, refused-run, compact-script, expanded-script}
 use Rattle.engine.proofs.run.Statement.{statement}
 use Rattle.engine.proofs.run.Tie as tie
 
@@ -22,6 +21,13 @@ argumentsOf s =
       script = s .args .script .now;
       response = s .args .response .now;
     }
+
+abbrev start : tie.After-run-number → tie.Start
+start k = let lent = k .before .before .before .before .before in lent .before .before .before .before .before
+
+-- past the test, no number is given
+none : (o : tie.Else1) → firstGiven (runRefusals (cardOf (start (o .before))) (argumentsOf (start (o .before)))) ≡ 0
+none o = sym (o .before .run-number .ensures .0) ∙ o .if1 .left
 
 run-number-requires : tie.Need-run-number-requires
 run-number-requires c κs = search needs
@@ -46,31 +52,17 @@ returns c =
     let n = c .before .before .run-number .ensures in
     answers-number _ (omega (arith, n .1)) (c .numbered .ensures) _ _ (refused-run _ _ _ (n .0) (c .before .if1 .taken))
 
--- past the test, no number is given
-none : (o : tie.Else1) → firstGiven (runRefusals (cardOf (o .before .before .before .before .before .before .before .before .before .before .before)) (argumentsOf (o .before .before .before .before .before .before .before .before .before .before .before))) ≡ 0
-none o = sym (o .before .run-number .ensures .0) ∙ o .if1 .left
-
-used-bytes-requires : tie.Need-used-bytes-requires
-used-bytes-requires c κs = omega (arith, journal-whole _ _ (none (c .before)))
-
-slice-read-scripts : tie.Need-slice-read-scripts
-slice-read-scripts c = omega (arith, journal-whole _ _ (none (c .before .before .before)))
-
-add-push-mark : tie.Need-add-push-mark
-add-push-mark c = omega (arith, scripts-byte _ _ (none (c .before .before .before .before)))
-
-push-mark-requires : tie.Need-push-mark-requires
-push-mark-requires c κs = omega (arith, mark-room _ _ (none (c .before .before .before .before)), c .before .before .used-bytes .ensures .0)
-
--- the mark is set
-is : (k : tie.After-push-mark) → k .push-mark .last .0 ≡ marked (k .before .before .before .before .before .before .before .before .before .before .before .before .before .before .before .before .args .journal .now)
-is k = is-marked (k .before .before .before .before .before .before .before .before .before .before .before .before .before .before .before .before .args .journal .now) (k .before .before .before .used-bytes .ensures .0) (k .push-mark .ensures)
+mark-requires : tie.Need-mark-requires
+mark-requires c κs = may-mark _ _ (none (c .before))
 
 wide-requires : tie.Need-wide-requires
 wide-requires c κs = search needs
 
 run-compact-requires : tie.Need-run-compact-requires
-run-compact-requires c κs = script-starts _ _ (none (c .before .before .before .before .before .before .before .before .before .before .before .before .before)) _ (is (c .before .before .before .before .before .before .before .before))
+run-compact-requires c κs =
+    let at-wide = c .before .before .before .before .before in
+    let at-mark = at-wide .before .before .before in
+    script-starts _ _ (none (at-mark .before .before)) _ (at-mark .mark .ensures)
 
 same-length-5 : tie.Need-same-length-5
 same-length-5 c = search needs
@@ -86,12 +78,20 @@ same-length-8 c = search needs
 
 returns-2 : tie.Need-returns-2
 returns-2 c =
-    let r = c .before .before .before .before .before .before .before .before .run-compact .ensures in
-    let t = c .before .before .before .before .before .before .before .before .before .before .before .before .before in
-    (r .0 ∙ compact-script (argumentsOf (c .before .before .before .before .before .before .before .before .before .before .before .before .before .before .before .before .before .before .before .before .before .before .before .before .before .before .before .before .before .before .before .before .before)) (t .before .wide .ensures .0) (t .if2 .taken) _ ∙ accepted-run _ _ (none (c .before .before .before .before .before .before .before .before .before .before .before .before .before .before .before .before .before .before .before .before .before .before)) _ (is (c .before .before .before .before .before .before .before .before .before .before .before .before .before .before .before .before .before)), r .1)
+    let at-table = c .before .before .before .before .before in
+    let at-run = at-table .before .before .before in
+    let at-if2 = at-run .before .before .before .before .before in
+    let at-wide = at-if2 .before in
+    let at-mark = at-wide .before .before .before in
+    let at-if1 = at-mark .before .before in
+    let r = at-run .run-compact .ensures in
+    (r .0 ∙ compact-script (argumentsOf (start (at-if1 .before))) (at-wide .wide .ensures .0) (at-if2 .if2 .taken) _ ∙ accepted-run _ _ (none at-if1) _ (at-mark .mark .ensures), r .1)
 
 run-expanded-requires : tie.Need-run-expanded-requires
-run-expanded-requires c κs = script-starts _ _ (none (c .before .before .before .before .before .before .before .before .before .before .before .before .before)) _ (is (c .before .before .before .before .before .before .before .before))
+run-expanded-requires c κs =
+    let at-wide = c .before .before .before .before .before in
+    let at-mark = at-wide .before .before .before in
+    script-starts _ _ (none (at-mark .before .before)) _ (at-mark .mark .ensures)
 
 same-length-9 : tie.Need-same-length-9
 same-length-9 c = search needs
@@ -107,9 +107,14 @@ same-length-12 c = search needs
 
 returns-3 : tie.Need-returns-3
 returns-3 c =
-    let r = c .before .before .before .before .before .before .before .before .run-expanded .ensures in
-    let t = c .before .before .before .before .before .before .before .before .before .before .before .before .before in
-    (r .0 ∙ expanded-script (argumentsOf (c .before .before .before .before .before .before .before .before .before .before .before .before .before .before .before .before .before .before .before .before .before .before .before .before .before .before .before .before .before .before .before .before .before)) (t .before .wide .ensures .0) (t .if2 .left) _ ∙ accepted-run _ _ (none (c .before .before .before .before .before .before .before .before .before .before .before .before .before .before .before .before .before .before .before .before .before .before)) _ (is (c .before .before .before .before .before .before .before .before .before .before .before .before .before .before .before .before .before)), r .1)
+    let at-table = c .before .before .before .before .before in
+    let at-run = at-table .before .before .before in
+    let at-if2 = at-run .before .before .before .before .before in
+    let at-wide = at-if2 .before in
+    let at-mark = at-wide .before .before .before in
+    let at-if1 = at-mark .before .before in
+    let r = at-run .run-expanded .ensures in
+    (r .0 ∙ expanded-script (argumentsOf (start (at-if1 .before))) (at-wide .wide .ensures .0) (at-if2 .if2 .left) _ ∙ accepted-run _ _ (none at-if1) _ (at-mark .mark .ensures), r .1)
 
 pub run-spec : {M : Type 1} → statement M
 run-spec =
@@ -122,10 +127,7 @@ run-spec =
     same-length-3
     same-length-4
     returns
-    used-bytes-requires
-    slice-read-scripts
-    add-push-mark
-    push-mark-requires
+    mark-requires
     wide-requires
     run-compact-requires
     same-length-5

@@ -8,9 +8,9 @@ use borrow.Author.Needs.{needs}
 use Rattle.octets.proofs.Picks.{told-false, told-true}
 use Rattle.card.specs.Row.{Card, lent}
 use Rattle.card.proofs.Promises.{parents-smaller}
-use Rattle.journal.specs.Sound.{soundCard}
+use Rattle.journal.specs.Sound.{markFits, soundCard}
 use Rattle.journal.proofs.Parts.{card-parts, card-table}
-use Rattle.engine.specs.Numbers.{Arguments, argumentsFit, scriptFits, markFits, leastResponse, formatOf}
+use Rattle.engine.specs.Numbers.{Arguments, argumentsFit, scriptFits, leastResponse, formatOf}
 use Rattle.engine.proofs.RunNumbers.{meets, least-response}
 use Rattle.engine.proofs.Refusals.{arguments-root}
 use Rattle.engine.proofs.numbers.run_number.Statement.{statement}

@@ -1,19 +1,20 @@
 -- `plan::act::perform` meets its contract: in each arm, what the change's fitting tells of it, and then its writes. Assumes nothing.
 use mathlib.Core.Path.{_≡_, refl, sym}
-use Prim.Native.Nat.{_+_}
+use Prim.Native.Nat.{_+_, _≤_}
 use native.Mathlib.Omega.{arith}
 use borrow.Author.Needs.{needs}
 use lib.ListN.{length, take}
 use lib.Seq.{length-take-le}
 use Rattle.card.specs.Row.{Card, lent}
-use Rattle.journal.specs.Entries.{HasRoom, scriptsOnTrial}
+use Rattle.journal.specs.declared.Memory.the-variants.{Files}
+use Rattle.journal.specs.Entries.{headOf, HasRoom}
 use Rattle.journal.specs.Changes as changes
+use Rattle.journal.proofs.Pushed.{own-used}
 use Rattle.plan.specs.Promised.{writesOf, Fits}
 use Rattle.plan.specs.declared.NewRecord.{NewRecord}
 use Rattle.plan.specs.declared.Change.{Change}
 use Rattle.plan.specs.declared.Change.the-variants.{SumRecord}
-use Rattle.decide.proofs.Costs.{costOf}
-use Rattle.step.proofs.Acts.{known-fits, known-room, known-steps, file-step, table-step}
+use Rattle.plan.proofs.Acts.{known-fits, known-left, known-steps, one-write, table-write}
 use Rattle.step.proofs.act.perform.Statement.{statement}
 use Rattle.step.proofs.act.perform.Tie as tie
 
@@ -25,8 +26,8 @@ module _ (s : tie.Start) {other : Change} (same : s .args .change ≡ other) whe
   fits : Fits (length (s .args .table .now)) (length (s .args .files .now)) (length (s .args .«data» .now)) other
   fits = known-fits same (s .args .«data» .now) (s .args .made .now) (length (s .args .table .now)) (length (s .args .files .now)) (s .pre .0)
 
-  left : HasRoom (s .args .journal .now) (costOf other (length (s .args .«data» .now)))
-  left = known-room same (s .args .«data» .now) (s .args .made .now) (length (s .args .table .now)) (length (s .args .files .now)) (s .args .journal .now) (s .pre .0) (s .pre .1) (s .pre .3)
+  left : HasRoom (s .args .journal .now) (changes.cost (writesOf other (s .args .«data» .now) (s .args .made .now)))
+  left = known-left same (s .args .«data» .now) (s .args .made .now) (s .args .journal .now) (s .pre .3)
 
   steps : {d : Card} → d ≡ changes.perform (writesOf other (s .args .«data» .now) (s .args .made .now)) (whole s) → d ≡ changes.perform (writesOf (s .args .change) (s .args .«data» .now) (s .args .made .now)) (whole s)
   steps = known-steps same (s .args .«data» .now) (s .args .made .now) (whole s)
@@ -36,88 +37,120 @@ sum-long : (s : tie.Start) (r : NewRecord) → s .args .change ≡ SumRecord r �
 unfolding Fits
 sum-long s r same = length-take-le (r .«record») (s .args .made .now) (omega (arith, fits s same .1, s .pre .1))
 
+-- the head is read in front of the arms
+module _ (k : tie.After-head-of) where
+  abbrev start : tie.Start
+  start = let lent = k .before .before in lent .before .before .before .before .before
+
+  own : k .head-of .result ≡ headOf (start .args .journal .now)
+  own = k .head-of .ensures .0
+
+  short : length (start .args .journal .now) ≤ 65535
+  short = omega (arith, start .pre .2)
+
+head-of-requires : tie.Need-head-of-requires
+head-of-requires c κs = search needs
+
 enum-told : tie.Need-enum-told
 enum-told c = search needs
 
 enum-known-change : tie.Need-enum-known-change
 enum-known-change c = search needs
 
-used-bytes-requires : tie.Need-used-bytes-requires
-used-bytes-requires c κs = search needs
-
-slice-read-scripts : tie.Need-slice-read-scripts
-slice-read-scripts c = search needs
-
-write-file-requires : tie.Need-write-file-requires
-unfolding Fits costOf
-write-file-requires c κs =
-    let s = c .before .before .before .before .before .before .before .before .before .before .before .before .before in
-    let same = c .before .before .before .before .before .before .change .given .1 in
-    (fits s same .0, fits s same .1, omega (arith, left s same, c .before .before .before .used-bytes .ensures .0))
+write-requires : tie.Need-write-requires
+unfolding Fits changes.cost writesOf
+write-requires c κs =
+    let at-change = c .before .before .before in
+    let k = at-change .before .before in
+    let s = start k in
+    let same = at-change .change .given .1 in
+    record {
+      inside = fits s same .0;
+      within = fits s same .1;
+      head = own k;
+      short = short k;
+      left = omega (arith, left s same, own-used _ (own k));
+    }
 
 enum-known-change-2 : tie.Need-enum-known-change-2
 enum-known-change-2 c = search needs
 
 write-record-requires : tie.Need-write-record-requires
-unfolding Fits costOf
+unfolding Fits writesOf
 write-record-requires c κs =
-    let s = c .before .before .before .before .before .before .before .before .before .before .before in
-    let same = c .before .before .before .before .change2 .given .1 in
-    (fits s same .0, fits s same .1, s .pre .2, omega (arith, left s same, fits s same .1))
+    let at-change = c .before .before .before .before in
+    let k = at-change .before .before in
+    let s = start k in
+    let same = at-change .change2 .given .1 in
+    record { fits = fits s same .0; whole = fits s same .1; head = own k; short = short k; left = left s same }
 
 enum-known-change-3 : tie.Need-enum-known-change-3
 enum-known-change-3 c = search needs
 
 slice-aggregate-write-record : tie.Need-slice-aggregate-write-record
-slice-aggregate-write-record c = sym (sum-long (c .before .before .before .before .before .before .before .before .before .before .before .before) (c .before .before .before .before .before .change3 .given .0 .0) (c .before .before .before .before .before .change3 .given .1))
+slice-aggregate-write-record c =
+    let at-change = c .before .before .before .before .before in
+    let sum = at-change .change3 .given in
+    sym (sum-long (start (at-change .before .before)) (sum .0 .0) (sum .1))
 
 write-record-requires-2 : tie.Need-write-record-requires-2
-unfolding Fits costOf
+unfolding Fits writesOf
 write-record-requires-2 c κs =
-    let s = c .before .before .before .before .before .before .before .before .before .before .before .before in
-    let k = c .before .before .before .before .before .change3 .given in
-    (fits s (k .1) .0, sum-long s (k .0 .0) (k .1), s .pre .2, left s (k .1))
+    let at-change = c .before .before .before .before .before in
+    let k = at-change .before .before in
+    let s = start k in
+    let sum = at-change .change3 .given in
+    record { fits = fits s (sum .1) .0; whole = sum-long s (sum .0 .0) (sum .1); head = own k; short = short k; left = left s (sum .1) }
 
 enum-known-change-4 : tie.Need-enum-known-change-4
 enum-known-change-4 c = search needs
 
-used-bytes-requires-2 : tie.Need-used-bytes-requires-2
-used-bytes-requires-2 c κs = search needs
-
-slice-read-scripts-2 : tie.Need-slice-read-scripts-2
-slice-read-scripts-2 c = search needs
-
-cast-write-table : tie.Need-cast-write-table
+cast-t41 : tie.Need-cast-t41
 unfolding Fits
-cast-write-table c = omega (arith, fits (c .before .before .before .before .before .before .before .before .before .before .before .before .before) (c .before .before .before .before .before .before .change4 .given .1) .1)
+cast-t41 c =
+    let at-change = c .before in
+    omega (arith, fits (start (at-change .before .before)) (at-change .change4 .given .1) .1)
 
-write-table-requires : tie.Need-write-table-requires
-unfolding Fits costOf
-write-table-requires c κs =
-    let s = c .before .before .before .before .before .before .before .before .before .before .before .before .before in
-    let same = c .before .before .before .before .before .before .change4 .given .1 in
-    (fits s same .0, omega (arith, left s same, c .before .before .before .used-bytes2 .ensures .0))
+slice-aggregate-write : tie.Need-slice-aggregate-write
+slice-aggregate-write c = search needs
 
-returns : tie.Need-returns
-unfolding changes.perform writesOf
-returns c = steps (c .before .before .before .before .before .before .before) (c .enum-told .given .1) refl
+write-requires-2 : tie.Need-write-requires-2
+unfolding Fits changes.cost writesOf
+write-requires-2 c κs =
+    let at-change = c .before .before .before .before in
+    let k = at-change .before .before in
+    let s = start k in
+    let same = at-change .change4 .given .1 in
+    record {
+      inside = omega (arith, fits s same .0);
+      within = omega arith;
+      head = own k;
+      short = short k;
+      left = omega (arith, left s same, own-used _ (own k));
+    }
 
 same-length : tie.Need-same-length
 same-length c = search needs
 
+returns : tie.Need-returns
+unfolding changes.perform writesOf
+returns c = steps (start (c .before .before)) (c .enum-told .given .1) refl
+
 same-length-2 : tie.Need-same-length-2
 same-length-2 c = search needs
 
-returns-2 : tie.Need-returns-2
-unfolding changes.perform writesOf scriptsOnTrial
-returns-2 c =
-    let s = c .before .before .before .before .before .before .before .before .before .before .before .before .before .before .before .before .before .before in
-    let k = c .before .before .before .before .before .before .before .before .before .before .before .change .given in
-    let w = c .before .before .before .before .write-file .ensures in
-    steps s (k .1) (file-step (s .args .table .now) (s .args .files .now) (s .args .journal .now) (c .before .before .before .before .before .before .before .before .used-bytes .ensures .0) refl (k .0 .0 + k .0 .1 .1 .0) (s .args .«data» .now) (w .0) (w .1))
-
 same-length-3 : tie.Need-same-length-3
 same-length-3 c = search needs
+
+returns-2 : tie.Need-returns-2
+unfolding changes.perform writesOf changes.withMemory changes.withJournal changes.memoryOf
+returns-2 c =
+    let at-write = c .before .before .before .before in
+    let at-change = at-write .before .before .before .before in
+    let s = start (at-change .before .before) in
+    let content = at-change .change .given in
+    let w = at-write .write .ensures in
+    steps s (content .1) (one-write Files (whole s) (content .0 .0 + content .0 .1 .1 .0) (s .args .«data» .now) (w .0) (w .1))
 
 same-length-4 : tie.Need-same-length-4
 same-length-4 c = search needs
@@ -125,12 +158,15 @@ same-length-4 c = search needs
 same-length-5 : tie.Need-same-length-5
 same-length-5 c = search needs
 
-returns-3 : tie.Need-returns-3
-unfolding writesOf
-returns-3 c = steps (c .before .before .before .before .before .before .before .before .before .before .before .before .before .before .before .before .before .before) (c .before .before .before .before .before .before .before .before .before .before .before .change2 .given .1) (c .before .before .before .before .before .before .write-record .ensures)
-
 same-length-6 : tie.Need-same-length-6
 same-length-6 c = search needs
+
+returns-3 : tie.Need-returns-3
+unfolding writesOf
+returns-3 c =
+    let at-write = c .before .before .before .before .before .before in
+    let at-change = at-write .before .before .before .before .before in
+    steps (start (at-change .before .before)) (at-change .change2 .given .1) (at-write .write-record .ensures)
 
 same-length-7 : tie.Need-same-length-7
 same-length-7 c = search needs
@@ -138,55 +174,62 @@ same-length-7 c = search needs
 same-length-8 : tie.Need-same-length-8
 same-length-8 c = search needs
 
-returns-4 : tie.Need-returns-4
-unfolding writesOf
-returns-4 c = steps (c .before .before .before .before .before .before .before .before .before .before .before .before .before .before .before .before .before .before .before) (c .before .before .before .before .before .before .before .before .before .before .before .before .change3 .given .1) (c .before .before .before .before .before .before .write-record2 .ensures)
-
 same-length-9 : tie.Need-same-length-9
 same-length-9 c = search needs
+
+returns-4 : tie.Need-returns-4
+unfolding writesOf
+returns-4 c =
+    let at-write = c .before .before .before .before .before .before in
+    let at-change = at-write .before .before .before .before .before .before in
+    steps (start (at-change .before .before)) (at-change .change3 .given .1) (at-write .write-record2 .ensures)
 
 same-length-10 : tie.Need-same-length-10
 same-length-10 c = search needs
 
+same-length-11 : tie.Need-same-length-11
+same-length-11 c = search needs
+
 returns-5 : tie.Need-returns-5
-unfolding changes.perform writesOf scriptsOnTrial
+unfolding changes.perform writesOf
 returns-5 c =
-    let s = c .before .before .before .before .before .before .before .before .before .before .before .before .before .before .before .before .before .before in
-    let k = c .before .before .before .before .before .before .before .before .before .before .before .change4 .given in
-    let w = c .before .before .before .before .write-table .ensures in
-    steps s (k .1) (table-step (s .args .table .now) (s .args .files .now) (s .args .journal .now) (c .before .before .before .before .before .before .before .before .used-bytes2 .ensures .0) refl (k .0 .0) (k .0 .1 .0) (w .0) (w .1))
+    let at-write = c .before .before .before .before in
+    let at-change = at-write .before .before .before .before .before in
+    let s = start (at-change .before .before) in
+    let byte = at-change .change4 .given in
+    let w = at-write .write2 .ensures in
+    steps s (byte .1) (table-write (s .args .table .now) (s .args .files .now) (s .args .journal .now) (byte .0 .0) (byte .0 .1 .0) refl (w .0) (w .1))
 
 pub perform-spec : {M : Type 1} → statement M
 perform-spec =
     tie.close
     (tie.spec
+    head-of-requires
     enum-told
     enum-known-change
-    used-bytes-requires
-    slice-read-scripts
-    write-file-requires
+    write-requires
     enum-known-change-2
     write-record-requires
     enum-known-change-3
     slice-aggregate-write-record
     write-record-requires-2
     enum-known-change-4
-    used-bytes-requires-2
-    slice-read-scripts-2
-    cast-write-table
-    write-table-requires
-    returns
+    cast-t41
+    slice-aggregate-write
+    write-requires-2
     same-length
+    returns
     same-length-2
-    returns-2
     same-length-3
+    returns-2
     same-length-4
     same-length-5
-    returns-3
     same-length-6
+    returns-3
     same-length-7
     same-length-8
-    returns-4
     same-length-9
+    returns-4
     same-length-10
+    same-length-11
     returns-5)
