@@ -17,7 +17,6 @@ use Rattle.journal.proofs.Pushed.{pushed-length, pushed-used}
 use Rattle.plan.specs.Promised.{recordWrites, writesOf, WriteRecordFits, Fits}
 use Rattle.plan.specs.declared.NewRecord.{NewRecord}
 use Rattle.plan.specs.declared.Change.{Change}
-use Rattle.decide.proofs.Costs.{costOf, cost-told, fits-brief}
 
 -- what a change that is known needs, and what comes of it
 module _ {change other : Change} (same : change ≡ other) («data» bytes : List ℕ) where

@@ -14,7 +14,7 @@ use Rattle.plan.specs.Promised.{writesOf, Fits}
 use Rattle.plan.specs.declared.NewRecord.{NewRecord}
 use Rattle.plan.specs.declared.Change.{Change}
 use Rattle.plan.specs.declared.Change.the-variants.{SumRecord}
-use Rattle.plan.proofs.Acts.{known-fits, known-left, known-steps, one-write, table-write}
+use Rattle.step.proofs.Acts.{known-fits, known-left, known-steps, one-write, table-write}
 use Rattle.step.proofs.act.perform.Statement.{statement}
 use Rattle.step.proofs.act.perform.Tie as tie
 
