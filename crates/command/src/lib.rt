@@ -5,7 +5,7 @@ pub mod instruction;
 pub mod reader;
 
 use checks::Check;
-use session::Standing;
+use session::Session;
 
 // The format of a script and of its answer.
 pub enum Format {
@@ -42,9 +42,9 @@ pub enum Outcome {
     Error(Check),
 }
 
-// A script after some commands: the session, how the last command ended, and how many there were.
+// A script after some commands: its session, how the last command ended, and how many there were.
 pub struct Step {
-    pub session: Standing,
+    pub session: Session,
     pub outcome: Outcome,
     pub count: usize,
 }

@@ -6,28 +6,29 @@ use native.Mathlib.Omega.{arith}
 use lib.ListN.{length, replicate}
 use Rattle.octets.specs.Bytes.{bytes2, overwrite}
 use Rattle.octets.proofs.Writes.{write-two, write-length}
+use Rattle.session.specs.Session.{mostWaiting}
 use Rattle.command.specs.declared.Step.{Step}
 use Rattle.command.specs.Outcomes.{wordOf, dataOf, dataCount}
 use Rattle.command.specs.Promised.{OutcomeFits}
 use Rattle.command.proofs.Outgoing.{data-length}
 use Rattle.compact.specs.Compact.{answer}
 
-module _ (step : Step) (files waiting : List ℕ) (fits : OutcomeFits (length files) (step .outcome)) (all : length waiting ≡ 255) where
-  counted : length (dataOf (step .outcome) files waiting) ≡ dataCount (step .outcome)
-  counted = data-length (step .outcome) files waiting fits all
+module _ (step : Step) (files : List ℕ) (fits : OutcomeFits (length files) (step .outcome)) (all : length (step .session .waiting) ≡ mostWaiting) where
+  counted : length (dataOf (step .outcome) files (step .session .waiting)) ≡ dataCount (step .outcome)
+  counted = data-length (step .outcome) files (step .session .waiting) fits all
 
-  pub answer-length : length (answer step files waiting) ≡ 3 + dataCount (step .outcome)
+  pub answer-length : length (answer step files) ≡ 3 + dataCount (step .outcome)
   unfolding answer bytes2
   answer-length = let l = counted in omega arith
 
   pub answer-steps : (m m1 m2 m3 : List ℕ) (word : ℕ) → 3 + dataCount (step .outcome) ≤ length m
       → m1 ≡ overwrite m 0 (replicate 1 (step .count)) → word ≡ wordOf (step .outcome) → m2 ≡ overwrite m1 1 (bytes2 word)
-      → m3 ≡ overwrite m2 3 (dataOf (step .outcome) files waiting) → m3 ≡ overwrite m 0 (answer step files waiting)
+      → m3 ≡ overwrite m2 3 (dataOf (step .outcome) files (step .session .waiting)) → m3 ≡ overwrite m 0 (answer step files)
   unfolding answer bytes2
   answer-steps m m1 m2 m3 word room e1 w e2 e3 =
       let c = step .count ∷ [] in
       let b = bytes2 (wordOf (step .outcome)) in
-      let d = dataOf (step .outcome) files waiting in
+      let d = dataOf (step .outcome) files (step .session .waiting) in
       let l = counted in
       let k : length (overwrite m 0 c) ≡ length m = write-length m 0 c (omega arith) in
       e3

@@ -5,7 +5,7 @@ use native.Mathlib.Omega.{arith}
 use lib.ListN.{length}
 use Rattle.octets.specs.Bytes.{AllBytes}
 use Rattle.card.specs.Row.{Card}
-use Rattle.session.specs.Session.{start, startWaiting}
+use Rattle.session.specs.Session.{start}
 use Rattle.command.specs.declared.Format.the-variants.{Compact}
 use Rattle.command.specs.declared.Reading.{Reading}
 use Rattle.command.specs.Promised.{OutcomeFits}
@@ -29,8 +29,8 @@ module _ (script : List ℕ) (small : AllBytes script) where
     unfolding stepRead stepped carriedOut
     step-fits at st f =
         let h = f .0 in
-        (step-holds script small before domain at st h, outcome-fits (st .step .session) (st .card) (h .sound) (h .good) Compact domain (readAt script at .command) _ (brief script small at) (p3-byte at) (st .waiting))
+        (step-holds script small before domain at st h, outcome-fits (st .step .session .standing) (st .card) (h .sound) (h .good) Compact domain (readAt script at .command) _ (brief script small at) (p3-byte at) (st .step .session .waiting))
 
-  pub outcome-inside : (before : Card) (application domain : ℕ) (card : Card) → Holds before (start application) startWaiting card → OutcomeFits (length (run script application domain card .card .files)) (run script application domain card .step .outcome)
+  pub outcome-inside : (before : Card) (application domain : ℕ) (card : Card) → Holds before (start application) card → OutcomeFits (length (run script application domain card .card .files)) (run script application domain card .step .outcome)
   unfolding run started OutcomeFits
   outcome-inside before application domain card h = on-run (Fits before domain) script domain (step-fits before domain) (length script) 0 (started application card) (h, tt) .1

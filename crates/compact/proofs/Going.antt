@@ -10,7 +10,6 @@ use Rattle.octets.specs.Bytes.{AllBytes}
 use Rattle.card.specs.Row.{Card}
 use Rattle.journal.specs.Sound.{Starts}
 use Rattle.journal.specs.Changes.{takenBack}
-use Rattle.session.specs.Session.{startWaiting}
 use Rattle.command.specs.declared.Reading.{Reading}
 use Rattle.command.specs.declared.Step.{Step}
 use Rattle.command.specs.Outcomes.{wordOf, goesOn}
@@ -19,14 +18,14 @@ use Rattle.step.proofs.Keeps.{Holds, starts-holds}
 use Rattle.compact.specs.Compact.{readAt, placeAfter, ReadingFits, stepRead, stepAt, runFrom, run}
 use Rattle.compact.proofs.Runs.{step-holds}
 
--- the place, the number of commands, what holds of session, waiting bytes and card, and what is left to run, with a count that is large enough
-pub record Going (script : List ℕ) (application domain : ℕ) (card₀ : Card) (waiting : List ℕ) (card : Card) (step : Step) (at : ℕ) : Type 0 where
+-- the place, the number of commands, what holds of session and card, and what is left to run, with a count that is large enough
+pub record Going (script : List ℕ) (application domain : ℕ) (card₀ card : Card) (step : Step) (at : ℕ) : Type 0 where
   pub inside : at ≤ length script
   pub counted : step .count ≤ at
-  pub holds : Holds (takenBack card₀) (step .session) waiting card
+  pub holds : Holds (takenBack card₀) (step .session) card
   pub fuel : ℕ
   pub enough : length script ≤ at + fuel
-  pub whole : runFrom fuel script domain at (stateOf step waiting card) ≡ run script application domain card₀
+  pub whole : runFrom fuel script domain at (stateOf step card) ≡ run script application domain card₀
 
 -- the commands from a place on: none is left, the first stops the script, or it goes on
 module _ (script : List ℕ) (domain at : ℕ) (st : State) where
@@ -48,7 +47,7 @@ module _ (script : List ℕ) (domain at : ℕ) (st : State) where
     on (suc n) e f g = (n, omega arith, rw (runFrom, lt-ltb at (length script) more, g))
 
 module _ {script : List ℕ} {application domain : ℕ} {card₀ : Card} where
-  pub begins : Starts card₀ application → {step : Step} → step ≡ started application card₀ .step → Going script application domain card₀ startWaiting card₀ step 0
+  pub begins : Starts card₀ application → {step : Step} → step ≡ started application card₀ .step → Going script application domain card₀ card₀ step 0
   unfolding started run
   begins starts is =
       record {
@@ -60,33 +59,33 @@ module _ {script : List ℕ} {application domain : ℕ} {card₀ : Card} where
         whole = rw is;
       }
 
-  module _ {waiting : List ℕ} {card : Card} {step : Step} {at : ℕ} (g : Going script application domain card₀ waiting card step at) where
-    pub ends : length script ≤ at → stateOf step waiting card ≡ run script application domain card₀
-    ends h = sym (nothing-left script domain at (stateOf step waiting card) (g .fuel) h) ∙ g .whole
+  module _ {card : Card} {step : Step} {at : ℕ} (g : Going script application domain card₀ card step at) where
+    pub ends : length script ≤ at → stateOf step card ≡ run script application domain card₀
+    ends h = sym (nothing-left script domain at (stateOf step card) (g .fuel) h) ∙ g .whole
 
     -- after the command that was read at the place
-    module _ {next : Step} {bytes : List ℕ} {after : Card} {reading : Reading} (more : at < length script)
-        (did : stateOf next bytes after ≡ stepRead script domain reading (stateOf step waiting card)) (is : reading ≡ readAt script at) where
+    module _ {next : Step} {after : Card} {reading : Reading} (more : at < length script)
+        (did : stateOf next after ≡ stepRead script domain reading (stateOf step card)) (is : reading ≡ readAt script at) where
       -- the state is the one after the command at the place, and ends as it does
-      e : stateOf next bytes after ≡ stepAt script domain at (stateOf step waiting card)
-      e = did ∙ ap (λ (k : Reading). stepRead script domain k (stateOf step waiting card)) is
+      e : stateOf next after ≡ stepAt script domain at (stateOf step card)
+      e = did ∙ ap (λ (k : Reading). stepRead script domain k (stateOf step card)) is
 
-      same-end : {b : Bool} → goesOn (wordOf (next .outcome)) ≡ b → goesOn (wordOf (stepAt script domain at (stateOf step waiting card) .step .outcome)) ≡ b
+      same-end : {b : Bool} → goesOn (wordOf (next .outcome)) ≡ b → goesOn (wordOf (stepAt script domain at (stateOf step card) .step .outcome)) ≡ b
       same-end h = ap (λ (st : State). goesOn (wordOf (st .step .outcome))) (sym e) ∙ h
 
-      pub stops : goesOn (wordOf (next .outcome)) ≡ false → stateOf next bytes after ≡ run script application domain card₀
-      stops off = e ∙ sym (stop script domain at (stateOf step waiting card) more (g .fuel) (g .enough) (same-end off)) ∙ g .whole
+      pub stops : goesOn (wordOf (next .outcome)) ≡ false → stateOf next after ≡ run script application domain card₀
+      stops off = e ∙ sym (stop script domain at (stateOf step card) more (g .fuel) (g .enough) (same-end off)) ∙ g .whole
 
-      pub goes : AllBytes script → ReadingFits script at reading → goesOn (wordOf (next .outcome)) ≡ true → Going script application domain card₀ bytes after next (reading .from + reading .count)
+      pub goes : AllBytes script → ReadingFits script at reading → goesOn (wordOf (next .outcome)) ≡ true → Going script application domain card₀ after next (reading .from + reading .count)
       unfolding stepRead stepped placeAfter
       goes small fits going =
           let there = rw is at fits in
-          let k = on script domain at (stateOf step waiting card) more (g .fuel) (g .enough) (there .further) (same-end going) in
+          let k = on script domain at (stateOf step card) more (g .fuel) (g .enough) (there .further) (same-end going) in
           rw is
           (record {
             inside = there .inside;
             counted = let n : next .count ≡ step .count + 1 = ap (λ (st : State). st .step .count) e in let c = g .counted in omega (arith, there .further);
-            holds = subst (λ (st : State). Holds (takenBack card₀) (st .step .session) (st .waiting) (st .card)) (sym e) (step-holds script small (takenBack card₀) domain at (stateOf step waiting card) (g .holds));
+            holds = subst (λ (st : State). Holds (takenBack card₀) (st .step .session) (st .card)) (sym e) (step-holds script small (takenBack card₀) domain at (stateOf step card) (g .holds));
             fuel = k .0;
             enough = k .1;
             whole = ap (λ (st : State). runFrom (k .0) script domain (placeAfter (readAt script at)) st) e ∙ k .2 ∙ g .whole;

@@ -7,7 +7,7 @@ use lib.ListN.{length, length-take}
 use Rattle.octets.proofs.Picks.{on-pick, on-test}
 use Rattle.octets.specs.Bytes.{byte, AllBytes, part}
 use Rattle.card.specs.Row.{Card}
-use Rattle.session.specs.Session.{start, startWaiting}
+use Rattle.session.specs.Session.{start}
 use Rattle.command.specs.declared.Format.the-variants.{Compact}
 use Rattle.command.specs.declared.Reading.{Reading}
 use Rattle.command.specs.Instructions.{carriesData}
@@ -30,7 +30,7 @@ on-run P script domain keeps (suc n) at st h =
 
 -- what holds between its commands
 abbrev pub Kept : Card → State → Type 0
-Kept before st = Holds before (st .step .session) (st .waiting) (st .card)
+Kept before st = Holds before (st .step .session) (st .card)
 
 module _ (script : List ℕ) (small : AllBytes script) where
   few : (at : ℕ) → readAt script at .count ≤ 255
@@ -45,9 +45,9 @@ module _ (script : List ℕ) (small : AllBytes script) where
   module _ (before : Card) (domain : ℕ) where
     pub step-holds : (at : ℕ) (st : State) → Kept before st → Kept before (stepAt script domain at st)
     unfolding stepRead stepped
-    step-holds at st h = command-holds before (st .step .session) (st .waiting) (st .card) h Compact domain (readAt script at .command) _ (brief at)
+    step-holds at st h = command-holds before (st .step .session) (st .card) h Compact domain (readAt script at .command) _ (brief at)
 
-  pub run-keeps : (before : Card) (application domain : ℕ) (card : Card) → Holds before (start application) startWaiting card
-      → Holds before (run script application domain card .step .session) (run script application domain card .waiting) (run script application domain card .card)
+  pub run-keeps : (before : Card) (application domain : ℕ) (card : Card) → Holds before (start application) card
+      → Holds before (run script application domain card .step .session) (run script application domain card .card)
   unfolding run started
   run-keeps before application domain card h = on-run (Kept before) script domain (step-holds before domain) (length script) 0 (started application card) h

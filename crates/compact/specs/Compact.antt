@@ -92,7 +92,7 @@ pub record ReadingFits (script : List ℕ) (at : ℕ) (r : Reading) : Type 0 whe
 abbrev pub stepWith : ℕ → Command → List ℕ → State → State
 stepWith domain c «data» st =
     stepped st
-    (carriedOut (planned (situation Compact domain c «data» (st .step .session) (st .card))) (st .waiting) (st .card))
+    (carriedOut (planned (situation Compact domain c «data» (st .step .session .standing) (st .card))) (st .step .session .waiting) (st .card))
 
 -- a script's state after a command that was read
 unfoldable pub stepRead : List ℕ → ℕ → Reading → State → State
@@ -122,6 +122,6 @@ unfoldable pub run : List ℕ → ℕ → ℕ → Card → State
 run script application domain card = runFrom (length script) script domain 0 (started application card)
 
 -- "Answer: count, status, data of a last outgoing command."
-unfoldable pub answer : Step → List ℕ → List ℕ → List ℕ
-answer step files waiting =
-    step .count ∷ (bytes2 (wordOf (step .outcome)) ++ dataOf (step .outcome) files waiting)
+unfoldable pub answer : Step → List ℕ → List ℕ
+answer step files =
+    step .count ∷ (bytes2 (wordOf (step .outcome)) ++ dataOf (step .outcome) files (step .session .waiting))

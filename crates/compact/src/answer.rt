@@ -10,13 +10,14 @@ ghost use Rattle.command.specs.Outcomes.{dataCount};
 ghost use Rattle.command.specs.Promised.{OutcomeFits};
 ghost use Rattle.compact.specs.Compact as spec;
 
-// The answer is written to the front of the response memory: count, status, data; what comes out is its length.
-pub fn put_answer(response: &mut [u8], step: Step, files: &[u8], waiting: &[u8]) -> usize
-    requires { ⌜ (length (now waiting) ≡ 255) × OutcomeFits (length (now files)) (step .outcome) × (step .count < 256) × (3 + dataCount (step .outcome) ≤ length (now response)) ⌝ }
-    ensures { λ r. ⌜ (now (response .exit) ≡ overwrite (now (response .entry)) 0 (spec.answer step (now (files .entry)) (now (waiting .entry)))) × (r ≡ length (spec.answer step (now (files .entry)) (now (waiting .entry)))) ⌝ }
+// The answer of a script's last step is written to the front of the response memory: count, status, data. Returns its length.
+pub fn put_answer(response: &mut [u8], step: Step, files: &[u8]) -> usize
+    requires { ⌜ OutcomeFits (length (now files)) (step .outcome) × (step .count < 256) × (3 + dataCount (step .outcome) ≤ length (now response)) ⌝ }
+    ensures { λ r. ⌜ (now (response .exit) ≡ overwrite (now (response .entry)) 0 (spec.answer step (now (files .entry)))) × (r ≡ length (spec.answer step (now (files .entry)))) ⌝ }
 {
     let outcome = step.outcome;
+    let session = step.session;
     octets::fill(response, 0, 1, step.count as u8);
     octets::put_num(response, 1, word_of(outcome));
-    put_data(response, 3, outcome, files, waiting)
+    put_data(response, 3, outcome, files, &session.waiting)
 }

@@ -7,11 +7,10 @@ use command::Step;
 use command::ends::goes_on;
 use command::ends::word_of;
 ghost use mathlib.Core.Path.{_≡_};
-ghost use Prim.Native.Nat.{_≤_};
+ghost use Prim.Native.Nat.{_≤_, _<_};
 ghost use lib.ListN.{length};
 ghost use Rattle.card.specs.Row.{lent};
 ghost use Rattle.journal.specs.Sound.{Starts};
-ghost use Rattle.session.specs.Session.{startWaiting};
 ghost use Rattle.step.specs.Steps.{stateOf};
 ghost use Rattle.step.specs.Promised.{MayRun};
 ghost use Rattle.compact.specs.Compact as spec;
@@ -23,13 +22,12 @@ fn step_read(
     reading: Reading,
     before: Step,
     made: &mut [u8],
-    waiting: &mut [u8],
     table: &mut [u8],
     files: &mut [u8],
     journal: &mut [u8],
 ) -> Step
-    requires { ⌜ (spec.placeAfter reading ≤ length (now script)) × MayRun (lent (now table) (now files) (now journal)) (before .session) (reading .command) (reading .count) (before .count) 0 (now made) (now waiting) ⌝ }
-    ensures { λ r. ⌜ stateOf r (now (waiting .exit)) (lent (now (table .exit)) (now (files .exit)) (now (journal .exit))) ≡ spec.stepRead (now (script .entry)) domain reading (stateOf before (now (waiting .entry)) (lent (now (table .entry)) (now (files .entry)) (now (journal .entry)))) ⌝ }
+    requires { ⌜ (spec.placeAfter reading ≤ length (now script)) × MayRun (lent (now table) (now files) (now journal)) (before .session .standing) (reading .command) (reading .count) 0 (now made) × (before .count < 65535) ⌝ }
+    ensures { λ r. ⌜ stateOf r (lent (now (table .exit)) (now (files .exit)) (now (journal .exit))) ≡ spec.stepRead (now (script .entry)) domain reading (stateOf before (lent (now (table .entry)) (now (files .entry)) (now (journal .entry)))) ⌝ }
 {
     let from = reading.from;
     let end = from + reading.count;
@@ -43,25 +41,23 @@ fn step_read(
         0,
         false,
         made,
-        waiting,
         table,
         files,
         journal,
     )
 }
 
-// A whole script of an application on a sound card with the script's mark, with the waiting bytes that a session starts with.
+// A whole script of an application on a sound card with the script's mark: returns the script's last step.
 pub fn run(
     script: &[u8],
     application: usize,
     domain: usize,
-    waiting: &mut [u8],
     table: &mut [u8],
     files: &mut [u8],
     journal: &mut [u8],
 ) -> Step
-    requires { ⌜ Starts (lent (now table) (now files) (now journal)) application × (length (now script) ≤ 1024) × (now waiting ≡ startWaiting) ⌝ }
-    ensures { λ r. ⌜ stateOf r (now (waiting .exit)) (lent (now (table .exit)) (now (files .exit)) (now (journal .exit))) ≡ spec.run (now (script .entry)) application domain (lent (now (table .entry)) (now (files .entry)) (now (journal .entry))) ⌝ }
+    requires { ⌜ Starts (lent (now table) (now files) (now journal)) application × (length (now script) ≤ 1024) ⌝ }
+    ensures { λ r. ⌜ stateOf r (lent (now (table .exit)) (now (files .exit)) (now (journal .exit))) ≡ spec.run (now (script .entry)) application domain (lent (now (table .entry)) (now (files .entry)) (now (journal .entry))) ⌝ }
 {
     let mut step = Step {
         session: session::start(application),
@@ -78,7 +74,6 @@ pub fn run(
             reading,
             step,
             &mut made,
-            waiting,
             table,
             files,
             journal,

@@ -12,7 +12,7 @@ use Rattle.tlv.specs.declared.template.Template.the-variants.{Definite, Indefin
 use Rattle.tlv.specs.Lengths.{lengthBytes}
 use Rattle.tlv.specs.Templates.{templateOf}
 use Rattle.journal.specs.Changes.{perform, withMark}
-use Rattle.session.specs.Session.{start, startWaiting}
+use Rattle.session.specs.Session.{startStanding, start, startWaiting}
 use Rattle.command.specs.declared.Format.the-variants.{Compact, Expanded}
 use Rattle.command.specs.Instructions as ins
 use Rattle.plan.specs.Ends.{Plan, failed}
@@ -49,18 +49,18 @@ no-file w h z =
 
 -- the state of a script that was stopped so
 stopped : ℕ → Card → State
-stopped application card = stepped (started application card) (carriedOut (failed (start application) NoFile) startWaiting card)
+stopped application card = stepped (started application card) (carriedOut (failed (start application .standing) NoFile) startWaiting card)
 
 -- ---- compact
 
 module _ (script : List ℕ) (application domain : ℕ) (card : Card) (r : Read) (rs : List Read) (first : commandsOf script ≡ r ∷ rs)
-    (works : WorksOnFile (situation Compact domain (r .command) (r .«data») (start application) card)) where
+    (works : WorksOnFile (situation Compact domain (r .command) (r .«data») (start application .standing) card)) where
   -- the state after the command
   command-fails : commandDone domain (started application card) r ≡ stopped application card
-  unfolding commandDone started situation start stopped carriedOut perform
+  unfolding commandDone started situation startStanding stopped carriedOut perform
   command-fails =
       ap (λ (p : Plan). stepped (started application card) (carriedOut p startWaiting card))
-      (no-file (situation Compact domain (r .command) (r .«data») (start application) card) works refl)
+      (no-file (situation Compact domain (r .command) (r .«data») (start application .standing) card) works refl)
 
   compact-stops : compact.run script application domain card ≡ stopped application card
   unfolding statesAfter wordGoesOn stopped stepped carriedOut failed checkWord
@@ -84,22 +84,22 @@ module _ (definite : Bool) (domain application : ℕ) (card : Card) (bytes : Lis
   command = readIn bytes (capduCommand bytes)
 
   abbrev plan : Plan
-  plan = planned (situation Expanded domain (command .command) (command .«data») (start application) card)
+  plan = planned (situation Expanded domain (command .command) (command .«data») (start application .standing) card)
 
-  either-counts : (counts : Bool) → plan ≡ failed (start application) NoFile
-      → let st = stepped (started application card) (carriedOut (limited 0 counts (start application) plan) startWaiting card) in
-      let p = answered counts st [] (lastRapdu (st .step) (st .card .files) (st .waiting)) in
+  either-counts : (counts : Bool) → plan ≡ failed (start application .standing) NoFile
+      → let st = stepped (started application card) (carriedOut (limited 0 counts (start application .standing) plan) startWaiting card) in
+      let p = answered counts st [] (lastRapdu (st .step) (st .card .files)) in
       (p .state ≡ stopped application card) × (p .kept ++ p .last ≡ hex "23026986")
   unfolding limited answered lastRapdu rapdu rapduSize lengthBytes dataOf bytes2 stopped stepped carriedOut failed checkWord perform hex digit pick
   either-counts true e = rw e (refl, refl)
   either-counts false e = rw e (refl, refl)
 
-  module _ (works : WorksOnFile (situation Expanded domain (command .command) (command .«data») (start application) card)) where
+  module _ (works : WorksOnFile (situation Expanded domain (command .command) (command .«data») (start application .standing) card)) where
     abbrev done : Progress
     done = pieceDone definite domain (begun application card) (capdu bytes)
 
     piece-fails : (done .state ≡ stopped application card) × (done .kept ++ done .last ≡ hex "23026986")
-    unfolding pieceDone stepCapdu begun started situation start readIn
+    unfolding pieceDone stepCapdu begun started situation startStanding readIn
     piece-fails = either-counts (keeps definite (capduCommand bytes .command .case)) (no-file _ works refl)
 
     piece-stops : pieceGoesOn done ≡ false
@@ -132,7 +132,7 @@ expanded-fresh a c bytes pieces ok f first works =
     (template-answer t p (a .application) c (a .response) (fails .0) (fails .1))
 
 pub fresh : (c : Card) (a : Arguments) → number (given (running a) c) ≡ 0 → Fresh c a
-unfolding started start startWaiting
+unfolding started startStanding startWaiting
 fresh c a ok =
     record {
       session = refl;

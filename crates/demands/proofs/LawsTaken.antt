@@ -1,14 +1,13 @@
 -- A take-back after an accepted run of a script that is bytes gives back the card from before the run. Assumes nothing.
-use Prim.Native.Nat.{ℕ}
 use mathlib.Core.Path.{_≡_, sym, ap, _∙_}
-use mathlib.Core.List.{List, []}
+use mathlib.Core.List.{[]}
 use native.Mathlib.Omega.{arith}
 use Rattle.card.specs.Row.{Card}
 use Rattle.journal.specs.Changes.{withMark}
 use Rattle.tlv.specs.Templates.{templateOf}
 use Rattle.journal.proofs.Undone.{back-mark}
-use Rattle.session.specs.declared.Standing.{Standing}
-use Rattle.session.specs.Session.{start, startWaiting}
+use Rattle.session.specs.declared.Session.{Session}
+use Rattle.session.specs.Session.{start}
 use Rattle.command.specs.declared.Format.{Format}
 use Rattle.command.specs.declared.Format.the-variants.{Compact, Expanded}
 use Rattle.step.proofs.Keeps.{Holds, starts-holds}
@@ -28,21 +27,21 @@ module _ (a : Arguments) (c : Card) (small : InBytes (running a)) (ok : number (
   free = sym (run-number a c) ∙ ok
 
   -- the mark is on the card
-  begins : Holds c (start (a .application)) startWaiting (withMark c)
+  begins : Holds c (start (a .application)) (withMark c)
   begins =
       rw (back-mark c (is-sound c a free) (mark-room c a free)) at (starts-holds (withMark c) (a .application) (marked-starts c a free))
 
   -- and what holds at the script's start holds at its end
-  ends : (f : Format) → (s : Standing) × (waiting : List ℕ) × Holds c s waiting (runScript f a (withMark c) .card)
+  ends : (f : Format) → (s : Session) × Holds c s (runScript f a (withMark c) .card)
   unfolding runScript accepted
-  ends Compact = (_, _, compact.run-keeps (a .script) small c (a .application) (a .domain) _ begins)
-  ends Expanded = (_, _, expanded.run-keeps (a .script) small c (templateOf (a .script)) (a .application) (a .domain) _ begins)
+  ends Compact = (_, compact.run-keeps (a .script) small c (a .application) (a .domain) _ begins)
+  ends Expanded = (_, expanded.run-keeps (a .script) small c (templateOf (a .script)) (a .application) (a .domain) _ begins)
 
 pub taken-back : (a : Arguments) (c : Card) → InBytes (running a) → number (given (running a) c) ≡ 0 → given takingBack (given (running a) c .card) ≡ gives (numbered 0) c []
 unfolding given
 taken-back a c small ok =
     let d = runScript (formatOf (a .format)) a (withMark c) .card in
-    let h = ends a c small ok (formatOf (a .format)) .2 in
+    let h = ends a c small ok (formatOf (a .format)) .1 in
     ap (λ (r : Result). given takingBack (r .card)) (run-done a c ok)
     ∙ back-done d (h .sound) (λ z. let t = h .trial in omega arith)
     ∙ ap (λ (k : Card). gives (numbered 0) k []) (h .back)

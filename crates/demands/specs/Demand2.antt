@@ -68,7 +68,7 @@ pub record WorksOnFile (w : Situation) : Type 0 where
 -- the situation of a script's first command
 abbrev pub firstSituation : Format → Arguments → Read → Card → Situation
 firstSituation format a r c =
-    situation format (a .domain) (r .command) (r .«data») (start (a .application)) (withMark c)
+    situation format (a .domain) (r .command) (r .«data») (start (a .application) .standing) (withMark c)
 
 -- an answer of one command, after which table and files are as they were, and the journal has the mark more
 unfoldable pub oneCommand : Card → List ℕ → List ℕ → Result
@@ -85,7 +85,7 @@ noFile Missing = []
 -- among 255 bytes of zero; and a first command that works on a file ends it with 6986
 pub record Fresh (c : Card) (a : Arguments) : Type 0 where
   pub session :
-      started (a .application) (withMark c) .step .session
+      started (a .application) (withMark c) .step .session .standing
       ≡ record {
         root = a .application;
         directory = a .application;
@@ -94,7 +94,7 @@ pub record Fresh (c : Card) (a : Arguments) : Type 0 where
         valid = 0;
         kept = 0;
       }
-  pub waiting : started (a .application) (withMark c) .waiting ≡ zeros 255
+  pub waiting : started (a .application) (withMark c) .step .session .waiting ≡ zeros 255
   pub compact :
       (r : Read) (rs : List Read)
       → a .format ≡ 0 → commandsOf (a .script) ≡ r ∷ rs

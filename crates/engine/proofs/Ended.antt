@@ -14,6 +14,7 @@ use Rattle.tlv.specs.declared.template.Template.the-variants.{Definite, Indefin
 use Rattle.tlv.specs.Templates.{templateOf}
 use Rattle.journal.specs.Sound.{Starts}
 use Rattle.journal.specs.Changes.{takenBack}
+use Rattle.session.specs.Session.{mostWaiting}
 use Rattle.command.specs.declared.Format.the-variants.{Compact, Expanded}
 use Rattle.command.specs.declared.Step.{Step}
 use Rattle.command.specs.Outcomes.{dataCount}
@@ -35,36 +36,41 @@ use Rattle.engine.specs.Calls.{Result, gives, numbered, Small, accepted,
 
 -- a compact script: its answer has room
 pub compact-room : (script : List ℕ) → AllBytes script → {application : ℕ} (domain : ℕ) {card : Card} → Starts card application → length script ≤ 1024
-    → {step : Step} {waiting : List ℕ} {after : Card} → stateOf step waiting after ≡ compact.run script application domain card
-    → {response : ℕ} → 1024 ≤ response → (length waiting ≡ 255) × OutcomeFits (length (after .files)) (step .outcome) × (step .count < 256) × (3 + dataCount (step .outcome) ≤ response)
-compact-room script small {application} domain {card} starts short {step} {waiting} {after} e long =
+    → {step : Step} {after : Card} → stateOf step after ≡ compact.run script application domain card
+    → {response : ℕ} → 1024 ≤ response → OutcomeFits (length (after .files)) (step .outcome) × (step .count < 256) × (3 + dataCount (step .outcome) ≤ response)
+compact-room script small {application} domain {card} starts short {step} {after} e long =
     let holds = starts-holds card application starts in
     let fits : OutcomeFits (length (after .files)) (step .outcome) =
     subst (λ (st : State). OutcomeFits (length (st .card .files)) (st .step .outcome)) (sym e) (outcome-inside script small (takenBack card) application domain card holds)
     in
     let few = data-few (step .outcome) (length (after .files)) fits in (
-      subst (λ (st : State). length (st .waiting) ≡ 255) (sym e) (run-keeps script small (takenBack card) application domain card holds .waiting),
       fits,
       subst (λ (st : State). st .step .count < 256) (sym e) (count-byte script application domain card short),
       omega arith,
     )
 
+-- all its waiting bytes are there at its end
+pub compact-waiting : (script : List ℕ) → AllBytes script → {application : ℕ} (domain : ℕ) {card : Card} → Starts card application
+    → {step : Step} {after : Card} → stateOf step after ≡ compact.run script application domain card → length (step .session .waiting) ≡ mostWaiting
+compact-waiting script small {application} domain {card} starts e =
+    subst (λ (st : State). length (st .step .session .waiting) ≡ mostWaiting) (sym e) (run-keeps script small (takenBack card) application domain card (starts-holds card application starts) .waiting)
+
 -- the answer is small
-pub compact-small : (step : Step) (files waiting : List ℕ) → OutcomeFits (length files) (step .outcome) → step .count < 256 → length waiting ≡ 255
-    → (n : ℕ) → n ≡ length (compact.answer step files waiting) → Small (record { number = 0; length = n; count = step .count })
-compact-small step files waiting fits few all n e =
-    let l = answer-length step files waiting fits all in
+pub compact-small : (step : Step) (files : List ℕ) → OutcomeFits (length files) (step .outcome) → step .count < 256 → length (step .session .waiting) ≡ mostWaiting
+    → (n : ℕ) → n ≡ length (compact.answer step files) → Small (record { number = 0; length = n; count = step .count })
+compact-small step files fits few all n e =
+    let l = answer-length step files fits all in
     let d = data-few (step .outcome) (length files) fits in
     (omega arith, omega arith, omega arith)
 
 -- and the result
-pub compact-gives : (a : Arguments) (card : Card) (step : Step) (waiting : List ℕ) (after : Card) (response : List ℕ) (n : ℕ) → stateOf step waiting after ≡ compact.run (a .script) (a .application) (a .domain) card
-    → response ≡ overwrite (a .response) 0 (compact.answer step (after .files) waiting) → n ≡ length (compact.answer step (after .files) waiting)
+pub compact-gives : (a : Arguments) (card : Card) (step : Step) (after : Card) (response : List ℕ) (n : ℕ) → stateOf step after ≡ compact.run (a .script) (a .application) (a .domain) card
+    → response ≡ overwrite (a .response) 0 (compact.answer step (after .files)) → n ≡ length (compact.answer step (after .files))
     → gives (record { number = 0; length = n; count = step .count }) after response ≡ runScript Compact a card
 unfolding runScript accepted
-compact-gives a card step waiting after response n e r l =
+compact-gives a card step after response n e r l =
     (λ i. gives (record { number = 0; length = l i; count = step .count }) after (r i))
-    ∙ ap (λ (st : State). accepted st (compact.answer (st .step) (st .card .files) (st .waiting)) (a .response)) e
+    ∙ ap (λ (st : State). accepted st (compact.answer (st .step) (st .card .files)) (a .response)) e
 
 -- an expanded script: its answer is small
 pub expanded-small : (definite : Bool) (count : ℕ) (rapdus : List ℕ) → length rapdus ≤ 1004 → count ≤ 1024
@@ -72,15 +78,15 @@ pub expanded-small : (definite : Bool) (count : ℕ) (rapdus : List ℕ) → len
 expanded-small definite count rapdus few most n e = let a = answer-few definite count rapdus in (omega arith, omega arith, omega arith)
 
 -- and the result
-pub value-gives : (definite : Bool) (at end : ℕ) (a : Arguments) (card : Card) (g : Gathered) (waiting : List ℕ) (after : Card) (out response : List ℕ) (n : ℕ)
-    → expanded.progressOf g waiting after out ≡ expanded.runFrom (length (a .script)) (a .script) (a .domain) definite at end (expanded.begun (a .application) card)
+pub value-gives : (definite : Bool) (at end : ℕ) (a : Arguments) (card : Card) (g : Gathered) (after : Card) (out response : List ℕ) (n : ℕ)
+    → expanded.progressOf g after out ≡ expanded.runFrom (length (a .script)) (a .script) (a .domain) definite at end (expanded.begun (a .application) card)
     → response ≡ overwrite (a .response) 0 (expanded.answerBytes definite (g .step .count) (take (g .kept + g .last) out))
     → n ≡ length (expanded.answerBytes definite (g .step .count) (take (g .kept + g .last) out))
     → gives (record { number = 0; length = n; count = g .step .count }) after response ≡ runValue definite at end a card
 unfolding runValue accepted expanded.progressOf
-value-gives definite at end a card g waiting after out response n e r l =
+value-gives definite at end a card g after out response n e r l =
     (λ i. gives (record { number = 0; length = l i; count = g .step .count }) after (r i))
-    ∙ (λ i. accepted (stateOf (g .step) waiting after) (expanded.answerBytes definite (g .step .count) (take-add (g .kept) (g .last) out i)) (a .response))
+    ∙ (λ i. accepted (stateOf (g .step) after) (expanded.answerBytes definite (g .step .count) (take-add (g .kept) (g .last) out i)) (a .response))
     ∙ ap (λ (p : Progress). accepted (p .state) (expanded.answerBytes definite (p .state .step .count) (p .kept ++ p .last)) (a .response)) e
 
 -- the value of a template of either form, and no template

@@ -65,7 +65,7 @@ runValue definite at end a c =
 unfoldable pub runScript : Format → Arguments → Card → Result
 runScript Compact a c =
     let st : State = compact.run (a .script) (a .application) (a .domain) c in
-    accepted st (compact.answer (st .step) (st .card .files) (st .waiting)) (a .response)
+    accepted st (compact.answer (st .step) (st .card .files)) (a .response)
 runScript Expanded a c =
     let template : Template = templateOf (a .script) in
     let p : Progress = expanded.run template (a .script) (a .application) (a .domain) c in

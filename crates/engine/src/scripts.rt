@@ -27,17 +27,8 @@ pub fn run_compact(
         ≡ spec.runScript formats.Compact (record { application = application; domain = domain; format = 0; script = now (script .entry); response = now (response .entry) })
         (lent (now (table .entry)) (now (files .entry)) (now (journal .entry)))) × spec.Small a ⌝ }
 {
-    let mut waiting = [0; 255];
-    let step = compact::run::run(
-        script,
-        application,
-        domain,
-        &mut waiting,
-        table,
-        files,
-        journal,
-    );
-    let length = compact::answer::put_answer(response, step, files, &waiting);
+    let step = compact::run::run(script, application, domain, table, files, journal);
+    let length = compact::answer::put_answer(response, step, files);
     Answer {
         number: 0,
         length,
@@ -64,7 +55,6 @@ fn run_value(
         (lent (now (table .entry)) (now (files .entry)) (now (journal .entry)))) × spec.Small a ⌝ }
 {
     let mut rapdus = [0; ROOM_TO_GATHER];
-    let mut waiting = [0; 255];
     let g = expanded::run::run(
         script,
         definite,
@@ -73,7 +63,6 @@ fn run_value(
         application,
         domain,
         &mut rapdus,
-        &mut waiting,
         table,
         files,
         journal,

@@ -13,7 +13,6 @@ use Rattle.tlv.specs.declared.template.Item.the-variants.{Capdu, Bad, End}
 use Rattle.tlv.specs.Templates.{leastCapdu, itemAt, ItemFits}
 use Rattle.journal.specs.Sound.{Starts}
 use Rattle.journal.specs.Changes.{takenBack}
-use Rattle.session.specs.Session.{startWaiting}
 use Rattle.command.specs.declared.Step.{Step}
 use Rattle.command.specs.Outcomes.{wordOf, goesOn}
 use Rattle.step.specs.Steps.{started, stepped}
@@ -38,16 +37,16 @@ pub counts-one : (definite : Bool) (domain : ℕ) (capdu : List ℕ) (p : Progre
 unfolding stepCapdu answered stepped
 counts-one definite domain capdu p = on-pick (λ (q : Progress). q .state .step .count ≡ p .state .step .count + 1) _ _ _ (λ y. refl) (λ n. refl)
 
--- the place, the number of commands, the bytes kept, what holds of session, waiting bytes and card, and what is left to run, with a count that is large enough
-pub record Going (script : List ℕ) (definite : Bool) (from end application domain : ℕ) (card₀ : Card) (waiting : List ℕ) (card : Card) (out : List ℕ) (g : Gathered) (at : ℕ) : Type 0 where
+-- the place, the number of commands, the bytes kept, what holds of session and card, and what is left to run, with a count that is large enough
+pub record Going (script : List ℕ) (definite : Bool) (from end application domain : ℕ) (card₀ card : Card) (out : List ℕ) (g : Gathered) (at : ℕ) : Type 0 where
   pub inside : at ≤ end
   pub counted : g .step .count ≤ at
   pub kept : g .kept ≤ mostKept
   pub room : g .kept + g .last ≤ roomToGather
-  pub holds : Holds (takenBack card₀) (g .step .session) waiting card
+  pub holds : Holds (takenBack card₀) (g .step .session) card
   pub fuel : ℕ
   pub enough : end ≤ at + fuel
-  pub whole : runFrom fuel script domain definite at end (progressOf g waiting card out) ≡ runFrom (length script) script domain definite from end (begun application card₀)
+  pub whole : runFrom fuel script domain definite at end (progressOf g card out) ≡ runFrom (length script) script domain definite from end (begun application card₀)
 
 -- the items from a place on, by the first of them
 module _ (script : List ℕ) (definite : Bool) (end domain at : ℕ) (p : Progress) where
@@ -77,16 +76,16 @@ module _ (script : List ℕ) (definite : Bool) (end domain at : ℕ) (p : Progre
     on-left (suc n) l g = (n, omega arith, rw (runFrom, e, g))
 
 -- a script that is done
-abbrev pub Done : List ℕ → Bool → ℕ → ℕ → ℕ → ℕ → Card → List ℕ → Card → List ℕ → Gathered → Type 0
-Done script definite from end application domain card₀ waiting card out r =
-    (progressOf r waiting card out ≡ runFrom (length script) script domain definite from end (begun application card₀))
+abbrev pub Done : List ℕ → Bool → ℕ → ℕ → ℕ → ℕ → Card → Card → List ℕ → Gathered → Type 0
+Done script definite from end application domain card₀ card out r =
+    (progressOf r card out ≡ runFrom (length script) script domain definite from end (begun application card₀))
     × (r .kept + r .last ≤ roomToGather)
     × (r .step .count ≤ end)
 
 module _ {script : List ℕ} {definite : Bool} {from end application domain : ℕ} {card₀ : Card} where
   pub begins : from ≤ end → end ≤ length script → Starts card₀ application → {out : List ℕ} {step : Step} → step ≡ started application card₀ .step
-      → Going script definite from end application domain card₀ startWaiting card₀ out (record { step = step; kept = 0; last = 0 }) from
-  unfolding started begun progressOf startWaiting
+      → Going script definite from end application domain card₀ card₀ out (record { step = step; kept = 0; last = 0 }) from
+  unfolding started begun progressOf
   begins inside short starts is =
       record {
         inside = inside;
@@ -100,54 +99,54 @@ module _ {script : List ℕ} {definite : Bool} {from end application domain : �
       }
 
   -- the item at a place of a script that is going
-  module _ {waiting : List ℕ} {card : Card} {out : List ℕ} {g : Gathered} {at : ℕ} (going : Going script definite from end application domain card₀ waiting card out g at) {item : Item} (is : item ≡ itemAt script at end) (fits : ItemFits at end item) where
-    pub ends : item ≡ End → Done script definite from end application domain card₀ waiting card out g
+  module _ {card : Card} {out : List ℕ} {g : Gathered} {at : ℕ} (going : Going script definite from end application domain card₀ card out g at) {item : Item} (is : item ≡ itemAt script at end) (fits : ItemFits at end item) where
+    pub ends : item ≡ End → Done script definite from end application domain card₀ card out g
     ends known =
         let c = going .counted in
         let i = going .inside in
-        (sym (end-left script definite end domain at (progressOf g waiting card out) (going .fuel) (sym is ∙ known)) ∙ going .whole, going .room, omega arith)
+        (sym (end-left script definite end domain at (progressOf g card out) (going .fuel) (sym is ∙ known)) ∙ going .whole, going .room, omega arith)
 
-    module _ (next : Gathered) (bytes : List ℕ) (card′ : Card) (out′ : List ℕ) (room : next .kept + next .last ≤ roomToGather) where
-      pub breaks : {code : ℕ} → item ≡ Bad code → progressOf next bytes card′ out′ ≡ stepBad code (progressOf g waiting card out) → Done script definite from end application domain card₀ bytes card′ out′ next
+    module _ (next : Gathered) (card′ : Card) (out′ : List ℕ) (room : next .kept + next .last ≤ roomToGather) where
+      pub breaks : {code : ℕ} → item ≡ Bad code → progressOf next card′ out′ ≡ stepBad code (progressOf g card out) → Done script definite from end application domain card₀ card′ out′ next
       unfolding stepBad progressOf
       breaks {code} known e =
           let f = bad-lies fits known in
           let c = going .counted in
           let n : next .step .count ≡ g .step .count + 1 = ap (λ (p : Progress). p .state .step .count) e in
-          (e ∙ sym (bad-left script definite end domain at (progressOf g waiting card out) (going .fuel) code (f .0) (going .enough) (sym is ∙ known)) ∙ going .whole, room, omega arith)
+          (e ∙ sym (bad-left script definite end domain at (progressOf g card out) (going .fuel) code (f .0) (going .enough) (sym is ∙ known)) ∙ going .whole, room, omega arith)
 
-      module _ {start size : ℕ} (known : item ≡ Capdu start size) (capdu : List ℕ) (lies : capdu ≡ part script start size) (did : progressOf next bytes card′ out′ ≡ stepCapdu definite domain capdu (progressOf g waiting card out)) where
-        e : progressOf next bytes card′ out′ ≡ stepCapdu definite domain (part script start size) (progressOf g waiting card out)
-        e = did ∙ ap (λ (x : List ℕ). stepCapdu definite domain x (progressOf g waiting card out)) lies
+      module _ {start size : ℕ} (known : item ≡ Capdu start size) (capdu : List ℕ) (lies : capdu ≡ part script start size) (did : progressOf next card′ out′ ≡ stepCapdu definite domain capdu (progressOf g card out)) where
+        e : progressOf next card′ out′ ≡ stepCapdu definite domain (part script start size) (progressOf g card out)
+        e = did ∙ ap (λ (x : List ℕ). stepCapdu definite domain x (progressOf g card out)) lies
 
         one-more : next .step .count ≡ g .step .count + 1
         unfolding progressOf
-        one-more = ap (λ (p : Progress). p .state .step .count) e ∙ counts-one definite domain (part script start size) (progressOf g waiting card out)
+        one-more = ap (λ (p : Progress). p .state .step .count) e ∙ counts-one definite domain (part script start size) (progressOf g card out)
 
-        same-end : {b : Bool} → goesOn (wordOf (next .step .outcome)) ≡ b → goesOn (wordOf (stepCapdu definite domain (part script start size) (progressOf g waiting card out) .state .step .outcome)) ≡ b
+        same-end : {b : Bool} → goesOn (wordOf (next .step .outcome)) ≡ b → goesOn (wordOf (stepCapdu definite domain (part script start size) (progressOf g card out) .state .step .outcome)) ≡ b
         unfolding progressOf
         same-end h = ap (λ (p : Progress). goesOn (wordOf (p .state .step .outcome))) (sym e) ∙ h
 
-        pub stops : goesOn (wordOf (next .step .outcome)) ≡ false → Done script definite from end application domain card₀ bytes card′ out′ next
+        pub stops : goesOn (wordOf (next .step .outcome)) ≡ false → Done script definite from end application domain card₀ card′ out′ next
         stops off =
             let c = going .counted in
             let n = one-more in
             let l = capdu-lies fits known in
-            (e ∙ sym (stop-left script definite end domain at (progressOf g waiting card out) start size (l .0) (l .1) (sym is ∙ known) (going .fuel) (going .enough) (same-end off)) ∙ going .whole, room, omega arith)
+            (e ∙ sym (stop-left script definite end domain at (progressOf g card out) start size (l .0) (l .1) (sym is ∙ known) (going .fuel) (going .enough) (same-end off)) ∙ going .whole, room, omega arith)
 
-        pub goes : AllBytes script → next .kept ≤ mostKept → goesOn (wordOf (next .step .outcome)) ≡ true → Going script definite from end application domain card₀ bytes card′ out′ next (start + size)
+        pub goes : AllBytes script → next .kept ≤ mostKept → goesOn (wordOf (next .step .outcome)) ≡ true → Going script definite from end application domain card₀ card′ out′ next (start + size)
         unfolding progressOf
         goes small few on =
             let c = going .counted in
             let n = one-more in
             let l = capdu-lies fits known in
-            let k = on-left script definite end domain at (progressOf g waiting card out) start size (l .0) (l .1) (sym is ∙ known) (going .fuel) (going .enough) (same-end on) in
+            let k = on-left script definite end domain at (progressOf g card out) start size (l .0) (l .1) (sym is ∙ known) (going .fuel) (going .enough) (same-end on) in
             record {
               inside = l .1;
               counted = omega arith;
               kept = few;
               room = room;
-              holds = subst (λ (p : Progress). Holds (takenBack card₀) (p .state .step .session) (p .state .waiting) (p .state .card)) (sym e) (script-capdu-holds script small (takenBack card₀) domain definite start size (progressOf g waiting card out) (going .holds));
+              holds = subst (λ (p : Progress). Holds (takenBack card₀) (p .state .step .session) (p .state .card)) (sym e) (script-capdu-holds script small (takenBack card₀) domain definite start size (progressOf g card out) (going .holds));
               fuel = k .0;
               enough = k .1;
               whole = ap (λ (p : Progress). runFrom (k .0) script domain definite (start + size) end p) e ∙ k .2 ∙ going .whole;

@@ -8,13 +8,11 @@ use lib.Dec.{eqb}
 use lib.ListN.{length}
 use borrow.Author.Tests.{ltb-false}
 use Rattle.octets.specs.Choice.{pick}
-use Rattle.octets.specs.Bytes.{overwrite}
 use Rattle.octets.proofs.Picks.{on-pick, or-none}
 use Rattle.card.specs.Row.{Card}
 use Rattle.tlv.specs.Lengths.{lengthBytes}
 use Rattle.journal.specs.Sound.{soundCard}
 use Rattle.session.specs.declared.Standing.{Standing}
-use Rattle.session.specs.Session.{mostWaiting}
 use Rattle.session.specs.Good.{Good}
 use Rattle.command.specs.declared.checks.Check.the-variants.{AnswerTooLong}
 use Rattle.command.specs.declared.Format.the-variants.{Expanded}
@@ -26,13 +24,13 @@ use Rattle.command.specs.Outcomes.{wordOf, dataCount, goesOn}
 use Rattle.command.specs.Promised.{OutcomeFits}
 use Rattle.step.specs.Steps.{State, stateOf, carriedOut, stepped}
 use Rattle.decide.specs.Decisions.{situation, planned}
-use Rattle.step.proofs.Handed.{waiting-kept, outcome-fits, no-data}
+use Rattle.step.proofs.Handed.{outcome-fits, no-data}
 use Rattle.step.specs.Limits.{rapduSize, mostKept, limited}
 use Rattle.step.proofs.Limited.{passes, by-passing}
 use Rattle.expanded.specs.Expanded.{keeps, roomToGather}
 
 module _ (kept : ℕ) (counts : Bool) (s : Standing) (few : kept ≤ mostKept) where
-  -- a command on a sound card: its outcome, the waiting bytes, and the room of its R-APDU behind those kept
+  -- a command on a sound card: its outcome, and the room of its R-APDU behind those kept
   module _ (card : Card) (sound : soundCard card ≡ true) (good : Good (card .table) s) (domain : ℕ) (c : Command) («data» : List ℕ) (brief : length «data» ≤ 255) (p3 : c .p3 < 256) (waiting : List ℕ) where
     abbrev plan : Plan
     plan = planned (situation Expanded domain c «data» s card)
@@ -43,10 +41,6 @@ module _ (kept : ℕ) (counts : Bool) (s : Standing) (few : kept ≤ mostKept) w
     limited-fits : OutcomeFits (length (carriedOut left waiting card .card .files)) (left .outcome)
     unfolding limited failed OutcomeFits
     limited-fits = on-pick (λ (p : Plan). OutcomeFits (length (carriedOut p waiting card .card .files)) (p .outcome)) _ _ _ (λ over. tt) (λ fits. outcome-fits s card sound good Expanded domain c «data» brief p3 waiting)
-
-    limited-waiting : length waiting ≡ mostWaiting → length (carriedOut left waiting card .waiting) ≡ mostWaiting
-    unfolding limited failed carriedOut overwrite
-    limited-waiting h = on-pick (λ (p : Plan). length (carriedOut p waiting card .waiting) ≡ mostWaiting) _ _ _ (λ over. h) (λ fits. waiting-kept s card sound good Expanded domain c «data» brief waiting h)
 
     -- what is so of an R-APDU that passes, and of one that does not
     by-rule : (P : Plan → Type 0) → (passes kept counts (dataCount (plan .outcome)) ≡ true → P (failed s AnswerTooLong)) → (passes kept counts (dataCount (plan .outcome)) ≡ false → P plan) → P left
@@ -69,16 +63,14 @@ module _ (kept : ℕ) (counts : Bool) (s : Standing) (few : kept ≤ mostKept) w
         by-count false fits is = rw (no-data (situation Expanded domain c «data» s card) (or-none (not definite) (eqb (c .case) 2 || eqb (c .case) 4) (sym is))) (omega arith)
 
     -- the same of the step after it
-    module _ (before next : Step) (bytes : List ℕ) (after : Card) (long : length waiting ≡ mostWaiting) (e : stateOf next bytes after ≡ stepped (stateOf before waiting card) (carriedOut left waiting card)) where
+    module _ (before next : Step) (after : Card) (e : stateOf next after ≡ stepped (stateOf before card) (carriedOut left waiting card)) where
       pub step-told : (definite : Bool) → counts ≡ keeps definite (c .case)
           → OutcomeFits (length (after .files)) (next .outcome)
-          × (length bytes ≡ mostWaiting)
           × (kept + rapduSize (dataCount (next .outcome)) ≤ roomToGather)
           × (counts ≡ true → goesOn (wordOf (next .outcome)) ≡ true → kept + rapduSize (dataCount (next .outcome)) ≤ mostKept)
       unfolding stepped carriedOut
       step-told definite is =
           subst (λ (st : State). OutcomeFits (length (st .card .files)) (st .step .outcome)
-          × (length (st .waiting) ≡ mostWaiting)
           × (kept + rapduSize (dataCount (st .step .outcome)) ≤ roomToGather)
           × (counts ≡ true → goesOn (wordOf (st .step .outcome)) ≡ true → kept + rapduSize (dataCount (st .step .outcome)) ≤ mostKept)) (sym e)
-          (limited-fits, limited-waiting long, limited-room definite is, limited-kept)
+          (limited-fits, limited-room definite is, limited-kept)

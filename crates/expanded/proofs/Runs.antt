@@ -14,7 +14,7 @@ use Rattle.tlv.specs.declared.template.Template.the-variants.{Definite, Indefin
 use Rattle.tlv.specs.declared.template.Item.{Item}
 use Rattle.tlv.specs.declared.template.Item.the-variants.{Capdu, Bad, End}
 use Rattle.tlv.specs.Templates.{itemAt}
-use Rattle.session.specs.Session.{start, startWaiting}
+use Rattle.session.specs.Session.{start}
 use Rattle.command.specs.declared.checks.Check.the-variants.{AnswerTooLong}
 use Rattle.command.specs.declared.Format.the-variants.{Expanded}
 use Rattle.command.specs.Outcomes.{wordOf, goesOn}
@@ -41,9 +41,9 @@ brief capdu from b = rw length-take (omega (arith, carried-few capdu b))
 -- a step
 module _ (before : Card) where
   abbrev Kept : Progress → Type 0
-  Kept p = Holds before (p .state .step .session) (p .state .waiting) (p .state .card)
+  Kept p = Holds before (p .state .step .session) (p .state .card)
 
-  answered-holds : (counts : Bool) (st : State) (kept r : List ℕ) → Holds before (st .step .session) (st .waiting) (st .card) → Kept (answered counts st kept r)
+  answered-holds : (counts : Bool) (st : State) (kept r : List ℕ) → Holds before (st .step .session) (st .card) → Kept (answered counts st kept r)
   unfolding answered
   answered-holds counts st kept r h = on-pick Kept counts _ _ (λ y. h) (λ n. h)
 
@@ -51,10 +51,9 @@ module _ (before : Card) where
   unfolding stepCapdu limited stepped capduCommand
   capdu-holds definite domain capdu p b h =
       let s = p .state .step .session in
-      let waiting = p .state .waiting in
       let card = p .state .card in
       answered-holds _ _ _ _
-      (on-pick (Carries before s waiting card h) _ _ _ (λ y. failed-holds before s waiting card h AnswerTooLong) (λ n. command-holds before s waiting card h Expanded domain _ _ (brief capdu (capduCommand capdu .from) b)))
+      (on-pick (Carries before s card h) _ _ _ (λ y. failed-holds before s card h AnswerTooLong) (λ n. command-holds before s card h Expanded domain _ _ (brief capdu (capduCommand capdu .from) b)))
 
   bad-holds : (code : ℕ) (p : Progress) → Kept p → Kept (stepBad code p)
   unfolding stepBad
@@ -80,8 +79,8 @@ module _ (script : List ℕ) (small : AllBytes script) (before : Card) (domain :
       (λ code. bad-holds before code p h)
       h
 
-pub run-keeps : (script : List ℕ) → AllBytes script → (before : Card) (template : Template) (application domain : ℕ) (card : Card) → Holds before (start application) startWaiting card
-    → Holds before (run template script application domain card .state .step .session) (run template script application domain card .state .waiting) (run template script application domain card .state .card)
+pub run-keeps : (script : List ℕ) → AllBytes script → (before : Card) (template : Template) (application domain : ℕ) (card : Card) → Holds before (start application) card
+    → Holds before (run template script application domain card .state .step .session) (run template script application domain card .state .card)
 unfolding run begun started
 run-keeps script small before (Definite at end) application domain card h = run-holds script small before domain true (length script) at end (begun application card) h
 run-keeps script small before (Indefinite at end) application domain card h = run-holds script small before domain false (length script) at end (begun application card) h

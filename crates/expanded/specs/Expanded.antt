@@ -1,5 +1,6 @@
 -- "Expanded": R-APDUs, running a script under the 1,000-byte rule, and the answer.
-use Prim.Native.Nat.{ℕ, zero, suc, _+_}
+use Prim.Native.Nat.{ℕ, zero, suc, _+_, _≤_, _<_}
+use mathlib.Core.Path.{_≡_}
 use mathlib.Core.Bool.{Bool, true, false, not, _||_}
 use mathlib.Core.List.{List, [], _∷_, _++_}
 use lib.ListN.{length, take}
@@ -11,7 +12,10 @@ use Rattle.tlv.specs.declared.template.Template.{Template}
 use Rattle.tlv.specs.declared.template.Template.the-variants.{Definite, Indefinite, Missing}
 use Rattle.tlv.specs.declared.template.Item.the-variants.{Capdu, Bad, End}
 use Rattle.tlv.specs.Lengths.{lengthBytes}
-use Rattle.tlv.specs.Templates.{itemAt}
+use Rattle.tlv.specs.Templates.{leastCapdu, itemAt}
+use Rattle.journal.specs.Sound.{soundCard}
+use Rattle.session.specs.Session.{mostWaiting}
+use Rattle.session.specs.Good.{Good}
 use Rattle.command.specs.declared.Format.the-variants.{Expanded}
 use Rattle.command.specs.declared.Reading.{Reading}
 use Rattle.command.specs.declared.Step.{Step}
@@ -45,9 +49,9 @@ abbrev pub roomToGather : ℕ
 roomToGather = mostKept + 4
 
 -- the progress whose R-APDUs are gathered in a buffer
-unfoldable pub progressOf : Gathered → List ℕ → Card → List ℕ → Progress
-progressOf g waiting card out =
-    record { state = stateOf (g .step) waiting card; kept = take (g .kept) out; last = part out (g .kept) (g .last) }
+unfoldable pub progressOf : Gathered → Card → List ℕ → Progress
+progressOf g card out =
+    record { state = stateOf (g .step) card; kept = take (g .kept) out; last = part out (g .kept) (g .last) }
 
 -- a command's R-APDU goes to those kept, or stands last for now
 unfoldable pub answered : Bool → State → List ℕ → List ℕ → Progress
@@ -63,9 +67,20 @@ gatheredIn counts step kept n =
     (record { step = step; kept = kept + n; last = 0 })
     (record { step = step; kept = kept; last = n })
 
--- the R-APDU of the last command, with the file memory and the waiting bytes after it
-unfoldable pub lastRapdu : Step → List ℕ → List ℕ → List ℕ
-lastRapdu step files waiting = rapdu (dataOf (step .outcome) files waiting) (wordOf (step .outcome))
+-- the R-APDU of the last command, with the file memory after it
+unfoldable pub lastRapdu : Step → List ℕ → List ℕ
+lastRapdu step files = rapdu (dataOf (step .outcome) files (step .session .waiting)) (wordOf (step .outcome))
+
+-- what the run of a C-APDU asks: a card and a session that are sound, few commands before it, and room for what it makes and for its
+-- R-APDU
+pub record StepCapduAsks (card : Card) (capdu : List ℕ) (before : Gathered) (out bytes : List ℕ) : Type 0 where
+  pub size : leastCapdu ≤ length capdu
+  pub sound : soundCard card ≡ true
+  pub good : Good (card .table) (before .step .session .standing)
+  pub few : before .step .count < 65535
+  pub kept : before .kept ≤ mostKept
+  pub room : length out ≡ roomToGather
+  pub made : length bytes ≡ mostWaiting
 
 -- a C-APDU is run
 unfoldable pub stepCapdu : Bool → ℕ → List ℕ → Progress → Progress
@@ -74,9 +89,9 @@ stepCapdu definite domain capdu p =
     let counts : Bool = keeps definite (r .command .case) in
     let st : State =
     stepped (p .state)
-    (commanded Expanded domain (r .command) (part capdu (r .from) (r .count)) (p .state .step .session) (length (p .kept)) counts (p .state .waiting) (p .state .card))
+    (commanded Expanded domain (r .command) (part capdu (r .from) (r .count)) (p .state .step .session) (length (p .kept)) counts (p .state .card))
     in
-    answered counts st (p .kept) (lastRapdu (st .step) (st .card .files) (st .waiting))
+    answered counts st (p .kept) (lastRapdu (st .step) (st .card .files))
 
 -- a Bad format TLV: "It counts and stops."
 unfoldable pub stepBad : ℕ → Progress → Progress
@@ -86,7 +101,6 @@ stepBad code p =
       state =
           record {
             step = record { session = step .session; outcome = step .outcome; count = step .count + 1 };
-            waiting = p .state .waiting;
             card = p .state .card;
           };
       kept = p .kept;

@@ -12,17 +12,14 @@ use tlv::template::Item;
 use tlv::template::capdu;
 ghost use mathlib.Core.Path.{_≡_};
 ghost use mathlib.Core.Bool.{true};
-ghost use mathlib.Core.List.{List};
-ghost use Prim.Native.Nat.{ℕ, _+_, _≤_, _<_};
+ghost use Prim.Native.Nat.{_+_, _≤_, _<_};
 ghost use lib.ListN.{length};
 ghost use Rattle.octets.specs.Bytes.{overwrite};
 ghost use Rattle.card.specs.Row.{Card, lent};
-ghost use Rattle.journal.specs.Sound.{soundCard, Starts};
-ghost use Rattle.session.specs.Good.{Good};
-ghost use Rattle.session.specs.Session.{startWaiting};
+ghost use Rattle.journal.specs.Sound.{Starts};
 ghost use Rattle.command.specs.Outcomes.{wordOf, dataCount, goesOn};
 ghost use Rattle.command.specs.Promised.{OutcomeFits};
-ghost use Rattle.step.specs.Limits.{rapduSize};
+ghost use Rattle.step.specs.Limits.{rapduSize, mostKept};
 ghost use Rattle.expanded.specs.Expanded as spec;
 
 // The bytes that a script's R-APDUs are gathered in: 1,000, and the R-APDU of a last command without data.
@@ -44,19 +41,13 @@ fn keeps(definite: bool, case: usize) -> bool
 }
 
 // The R-APDU of a script's last command is gathered behind those kept.
-fn gather(
-    counts: bool,
-    step: Step,
-    kept: usize,
-    out: &mut [u8],
-    files: &[u8],
-    waiting: &[u8],
-) -> Gathered
-    requires { ⌜ (length (now waiting) ≡ 255) × OutcomeFits (length (now files)) (step .outcome) × (kept + rapduSize (dataCount (step .outcome)) ≤ length (now out)) ⌝ }
-    ensures { λ r. ⌜ (now (out .exit) ≡ overwrite (now (out .entry)) kept (spec.lastRapdu step (now (files .entry)) (now (waiting .entry)))) × (length (spec.lastRapdu step (now (files .entry)) (now (waiting .entry))) ≡ rapduSize (dataCount (step .outcome))) × (r ≡ spec.gatheredIn counts step kept (rapduSize (dataCount (step .outcome)))) ⌝ }
+fn gather(counts: bool, step: Step, kept: usize, out: &mut [u8], files: &[u8]) -> Gathered
+    requires { ⌜ OutcomeFits (length (now files)) (step .outcome) × (kept + rapduSize (dataCount (step .outcome)) ≤ length (now out)) ⌝ }
+    ensures { λ r. ⌜ (now (out .exit) ≡ overwrite (now (out .entry)) kept (spec.lastRapdu step (now (files .entry)))) × (length (spec.lastRapdu step (now (files .entry))) ≡ rapduSize (dataCount (step .outcome))) × (r ≡ spec.gatheredIn counts step kept (rapduSize (dataCount (step .outcome)))) ⌝ }
 {
     let outcome = step.outcome;
-    let end = put_rapdu(out, kept, outcome, files, waiting);
+    let session = step.session;
+    let end = put_rapdu(out, kept, outcome, files, &session.waiting);
     if counts {
         return Gathered {
             step,
@@ -79,14 +70,13 @@ fn step_capdu(
     before: Gathered,
     out: &mut [u8],
     made: &mut [u8],
-    waiting: &mut [u8],
     table: &mut [u8],
     files: &mut [u8],
     journal: &mut [u8],
 ) -> Gathered
-    requires { ⌜ (4 ≤ length (now capdu)) × (soundCard (lent (now table) (now files) (now journal)) ≡ true) × Good (now table) (before .step .session) × (before .step .count < 65535) × (before .kept ≤ 1000) × (length (now out) ≡ 1004) × (length (now made) ≡ 255) × (length (now waiting) ≡ 255) ⌝ }
-    ensures { λ r. ⌜ (spec.progressOf r (now (waiting .exit)) (lent (now (table .exit)) (now (files .exit)) (now (journal .exit))) (now (out .exit)) ≡ spec.stepCapdu definite domain (now (capdu .entry)) (spec.progressOf before (now (waiting .entry)) (lent (now (table .entry)) (now (files .entry)) (now (journal .entry))) (now (out .entry))))
-        × (r .kept + r .last ≤ 1004) × (goesOn (wordOf (r .step .outcome)) ≡ true → r .kept ≤ 1000) ⌝ }
+    requires { ⌜ spec.StepCapduAsks (lent (now table) (now files) (now journal)) (now capdu) before (now out) (now made) ⌝ }
+    ensures { λ r. ⌜ (spec.progressOf r (lent (now (table .exit)) (now (files .exit)) (now (journal .exit))) (now (out .exit)) ≡ spec.stepCapdu definite domain (now (capdu .entry)) (spec.progressOf before (lent (now (table .entry)) (now (files .entry)) (now (journal .entry))) (now (out .entry))))
+        × (r .kept + r .last ≤ spec.roomToGather) × (goesOn (wordOf (r .step .outcome)) ≡ true → r .kept ≤ mostKept) ⌝ }
 {
     let r = command_of(capdu);
     let from = r.from;
@@ -103,18 +93,17 @@ fn step_capdu(
         kept,
         counts,
         made,
-        waiting,
         table,
         files,
         journal,
     );
-    gather(counts, step, kept, out, files, waiting)
+    gather(counts, step, kept, out, files)
 }
 
 // A Bad format TLV is gathered as the last command.
 fn step_bad(code: usize, before: Gathered, out: &mut [u8]) -> Gathered
-    requires { ⌜ (code < 256) × (before .step .count < 65535) × (before .kept ≤ 1000) × (length (now out) ≡ 1004) ⌝ }
-    ensures { λ r. ⌜ ((waiting : List ℕ) (card : Card) → spec.progressOf r waiting card (now (out .exit)) ≡ spec.stepBad code (spec.progressOf before waiting card (now (out .entry)))) × (r .kept + r .last ≤ 1004) ⌝ }
+    requires { ⌜ (code < 256) × (before .step .count < 65535) × (before .kept ≤ mostKept) × (length (now out) ≡ spec.roomToGather) ⌝ }
+    ensures { λ r. ⌜ ((card : Card) → spec.progressOf r card (now (out .exit)) ≡ spec.stepBad code (spec.progressOf before card (now (out .entry)))) × (r .kept + r .last ≤ spec.roomToGather) ⌝ }
 {
     let kept = before.kept;
     let place = put_bad(out, kept, code);
@@ -136,14 +125,13 @@ pub fn run(
     application: usize,
     domain: usize,
     out: &mut [u8],
-    waiting: &mut [u8],
     table: &mut [u8],
     files: &mut [u8],
     journal: &mut [u8],
 ) -> Gathered
-    requires { ⌜ (at ≤ end) × (end ≤ length (now script)) × (length (now script) ≤ 1024) × Starts (lent (now table) (now files) (now journal)) application × (length (now out) ≡ 1004) × (now waiting ≡ startWaiting) ⌝ }
-    ensures { λ r. ⌜ (spec.progressOf r (now (waiting .exit)) (lent (now (table .exit)) (now (files .exit)) (now (journal .exit))) (now (out .exit)) ≡ spec.runFrom (length (now (script .entry))) (now (script .entry)) domain definite at end (spec.begun application (lent (now (table .entry)) (now (files .entry)) (now (journal .entry)))))
-        × (r .kept + r .last ≤ 1004) × (r .step .count ≤ 1024) ⌝ }
+    requires { ⌜ (at ≤ end) × (end ≤ length (now script)) × (length (now script) ≤ 1024) × Starts (lent (now table) (now files) (now journal)) application × (length (now out) ≡ spec.roomToGather) ⌝ }
+    ensures { λ r. ⌜ (spec.progressOf r (lent (now (table .exit)) (now (files .exit)) (now (journal .exit))) (now (out .exit)) ≡ spec.runFrom (length (now (script .entry))) (now (script .entry)) domain definite at end (spec.begun application (lent (now (table .entry)) (now (files .entry)) (now (journal .entry)))))
+        × (r .kept + r .last ≤ spec.roomToGather) × (r .step .count ≤ 1024) ⌝ }
 {
     let mut g = Gathered {
         step: Step {
@@ -166,7 +154,6 @@ pub fn run(
                     g,
                     out,
                     &mut made,
-                    waiting,
                     table,
                     files,
                     journal,

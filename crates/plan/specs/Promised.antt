@@ -13,6 +13,7 @@ use Rattle.journal.specs.declared.Head.{Head}
 use Rattle.journal.specs.Changes.{Write, cost}
 use Rattle.journal.specs.Entries.{headOf, HasRoom}
 use Rattle.session.specs.declared.Standing.{Standing}
+use Rattle.session.specs.Session.{mostWaiting}
 use Rattle.command.specs.declared.Command.{Command}
 use Rattle.command.specs.declared.checks.Check.the-variants.{SumTooLong}
 use Rattle.plan.specs.declared.NewRecord.{NewRecord}
@@ -77,7 +78,7 @@ unfoldable pub Fits : ℕ → ℕ → ℕ → Change → Type 0
 Fits table files lc Nothing = Unit
 Fits table files lc (Content start size offset) = (start + size ≤ files) × (offset + lc ≤ size)
 Fits table files lc (DataRecord r) = RecordFits table files r × (lc ≡ r .«record»)
-Fits table files lc (SumRecord r) = RecordFits table files r × (r .«record» ≤ 255)
+Fits table files lc (SumRecord r) = RecordFits table files r × (r .«record» ≤ mostWaiting)
 Fits table files lc (TableByte place new) = (place < table) × (new < 256)
 
 -- the new record of a cyclic file
@@ -101,5 +102,5 @@ unfoldable pub Brief : Change → Type 0
 Brief Nothing = Unit
 Brief (Content start size offset) = Unit
 Brief (DataRecord r) = Unit
-Brief (SumRecord r) = r .«record» ≤ 255
+Brief (SumRecord r) = r .«record» ≤ mostWaiting
 Brief (TableByte place new) = Unit

@@ -19,7 +19,7 @@ use Rattle.card.specs.Tree.{isRoot, rootIn, rootOf}
 use Rattle.card.proofs.Promises.{file-kind, cyclic-records, records-some, entry-own, first-kind, no-directory-file, parent-directory}
 use Rattle.card.proofs.Kept.{Rows}
 use Rattle.session.specs.declared.Standing.{Standing}
-use Rattle.session.specs.Session.{none, mostWaiting, start, waits, dropped, atRecord, moved, selected}
+use Rattle.session.specs.Session.{none, mostWaiting, startStanding, waits, dropped, atRecord, moved, selected}
 use Rattle.session.specs.Select.{find}
 use Rattle.session.specs.Good.{Belongs, GoodFile, Good}
 use Rattle.session.proofs.Owned.{root-belongs, parent-belongs, find-owned}
@@ -104,8 +104,8 @@ module _ (t u : List ℕ) (rows : Rows t u) where
 
 module _ (t files : List ℕ) (sound : soundTable t files ≡ true) where
   -- the start
-  pub good-start : (a : ℕ) → a < entries t → isRoot (rowOf t a) ≡ true → Good t (start a)
-  unfolding start
+  pub good-start : (a : ℕ) → a < entries t → isRoot (rowOf t a) ≡ true → Good t (startStanding a)
+  unfolding startStanding
   good-start a here y =
       record {
         rootInside = here;

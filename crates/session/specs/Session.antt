@@ -6,6 +6,7 @@ use Rattle.octets.specs.Bytes.{zeros}
 use Rattle.card.specs.declared.Row.{Row}
 use Rattle.card.specs.Row.{isDirectory, isCyclic}
 use Rattle.session.specs.declared.Standing.{Standing}
+use Rattle.session.specs.declared.Session.{Session}
 
 -- how many bytes can wait
 abbrev pub mostWaiting : ℕ
@@ -17,8 +18,8 @@ none = 0
 
 -- "The root is the MF (application 0) or the named ADF; the directory is the root, no file is current, no record number,
 -- nothing waits."
-unfoldable pub start : ℕ → Standing
-start application =
+unfoldable pub startStanding : ℕ → Standing
+startStanding application =
     record {
       root = application;
       directory = application;
@@ -31,6 +32,14 @@ start application =
 -- "A session starts with 255 waiting bytes of zero"
 unfoldable pub startWaiting : List ℕ
 startWaiting = zeros mostWaiting
+
+-- where a script stands, and the waiting bytes
+abbrev pub sessionOf : Standing → List ℕ → Session
+sessionOf standing waiting = record { standing = standing; waiting = waiting }
+
+-- how a script's session starts
+abbrev pub start : ℕ → Session
+start application = sessionOf (startStanding application) startWaiting
 
 -- so many of the waiting bytes wait, with a word kept
 unfoldable pub waits : Standing → ℕ → ℕ → Standing

@@ -8,7 +8,7 @@ ghost use Prim.Native.Nat.{_<_};
 ghost use Rattle.session.specs.Session as spec;
 
 // Where a script stands: entry numbers of its root, its directory and its file (0: none), the record number (0: none), how many of
-// the waiting bytes wait, and the word that is kept for them. The waiting bytes are lent beside it.
+// the waiting bytes wait, and the word that is kept for them. These are the numbers of a session, passed on by value.
 pub struct Standing {
     pub root: u8,
     pub directory: u8,
@@ -18,19 +18,30 @@ pub struct Standing {
     pub kept: u16,
 }
 
-// The session that a script of an application starts with.
-pub fn start(application: usize) -> Standing
+// "One session's directory, file, record number and waiting bytes": where a script stands, and 255 waiting bytes, of which
+// `standing.valid` says how many wait.
+pub struct Session {
+    pub standing: Standing,
+    pub waiting: [u8; 255],
+}
+
+// The session that a script of an application starts with: "255 waiting bytes of zero, none of them valid".
+pub fn start(application: usize) -> Session
     requires { ⌜ application < 256 ⌝ }
     ensures { λ s. ⌜ s ≡ spec.start application ⌝ }
 {
     let root = application as u8;
-    Standing {
+    let standing = Standing {
         root,
         directory: root,
         file: 0,
         number: 0,
         valid: 0,
         kept: 0,
+    };
+    Session {
+        standing,
+        waiting: [0; 255],
     }
 }
 

@@ -93,7 +93,7 @@ module _ (w : Situation) where
       (λ _. still-response s (w .command))
 
   -- the card and the session stay what they were
-  pub error-still : (waiting : List ℕ) (card : Card) (x : Check) → planned w .outcome ≡ Error x → (carriedOut (planned w) waiting card .card ≡ card) × (carriedOut (planned w) waiting card .session ≡ s)
+  pub error-still : (waiting : List ℕ) (card : Card) (x : Check) → planned w .outcome ≡ Error x → (carriedOut (planned w) waiting card .card ≡ card) × (carriedOut (planned w) waiting card .session .standing ≡ s)
   unfolding carriedOut perform
   error-still waiting card x e =
       let k = of-planned (Still s) w (still-failed s) (λ _. still-by (w .command .instruction)) x e in

@@ -1,15 +1,13 @@
--- The data that a command hands out: they lie in the file memory after it, or in the waiting bytes, whose lengths it keeps; and only a command of case 2 or 4 has any. Assumes nothing.
+-- The data that a command hands out: they lie in the file memory after it, whose length it keeps, or in the waiting bytes; and only a command of case 2 or 4 has any. Assumes nothing.
 use mathlib.Core.Path.{_≡_, refl, sym, ap, _∙_}
 use mathlib.Core.Bool.{Bool, true, false, _||_, false≢true}
 use mathlib.Core.List.{List, [], _∷_}
 use Prim.Native.Nat.{ℕ, _≤_, _<_}
 use lib.Dec.{eqb}
-use native.Mathlib.Omega.{arith}
 use lib.ListN.{length}
 use borrow.Author.Tests.{not-false}
 use Rattle.octets.specs.Choice.{pick}
 use Rattle.octets.proofs.Picks.{on-pick}
-use Rattle.octets.proofs.Writes.{write-length}
 use Rattle.card.specs.declared.tree.Found.{Found}
 use Rattle.card.specs.declared.tree.Found.the-variants.{At, Nothing}
 use Rattle.card.specs.Row.{Card, isCyclic}
@@ -21,7 +19,6 @@ use Rattle.journal.proofs.Parts.{card-table}
 use Rattle.journal.proofs.Written.{AllFit, fit-kept, write-lengths}
 use Rattle.journal.proofs.Kept.{forms-fit}
 use Rattle.session.specs.declared.Standing.{Standing}
-use Rattle.session.specs.Session.{mostWaiting}
 use Rattle.session.specs.Good.{Good}
 use Rattle.command.specs.declared.Format.{Format}
 use Rattle.command.specs.declared.Command.{Command}
@@ -54,10 +51,6 @@ module _ (s : Standing) (card : Card) (sound : soundCard card ≡ true) (good : 
 
   fit : Fit card c plan
   fit = planned-fit format domain c «data» s card (card-table card sound) good brief
-
-  pub waiting-kept : (waiting : List ℕ) → length waiting ≡ mostWaiting → length (carriedOut plan waiting card .waiting) ≡ mostWaiting
-  unfolding carriedOut
-  waiting-kept waiting h = let m = fit .made in write-length waiting 0 (plan .made) (omega arith) ∙ h
 
   pub files-kept : (waiting : List ℕ) → length (carriedOut plan waiting card .card .files) ≡ length (card .files)
   unfolding carriedOut memoryOf

@@ -16,7 +16,7 @@ use Rattle.journal.proofs.Parts.{card-table, card-parts}
 use Rattle.journal.proofs.Written.{Writable, sound-writable, AllFit, write-scripts, perform-same}
 use Rattle.journal.proofs.Undone.{back-perform}
 use Rattle.journal.proofs.Kept.{forms-fit, perform-alike, perform-sound}
-use Rattle.session.specs.declared.Standing.{Standing}
+use Rattle.session.specs.declared.Session.{Session}
 use Rattle.session.specs.Session.{mostWaiting, start, startWaiting}
 use Rattle.session.specs.Good.{Good}
 use Rattle.session.proofs.Good.{good-start, good-kept}
@@ -35,15 +35,15 @@ pub perform-scripts : (ws : List Write) (c : Card) → AllFit ws c → Writable 
 perform-scripts = perform-same (λ (c : Card). scriptsOnTrial (c .journal)) write-scripts
 
 -- what holds between the commands of a script: a card before it is what a take-back gives
-pub record Holds (before : Card) (s : Standing) (bytes : List ℕ) (card : Card) : Type 0 where
+pub record Holds (before : Card) (s : Session) (card : Card) : Type 0 where
   pub sound : soundCard card ≡ true
   pub trial : 1 ≤ scriptsOnTrial (card .journal)
-  pub good : Good (card .table) s
-  pub waiting : length bytes ≡ mostWaiting
+  pub good : Good (card .table) (s .standing)
+  pub waiting : length (s .waiting) ≡ mostWaiting
   pub back : takenBack card ≡ before
 
 -- a script starts on a sound card with a mark, from an application's root
-pub starts-holds : (card : Card) (application : ℕ) → Starts card application → Holds (takenBack card) (start application) startWaiting card
+pub starts-holds : (card : Card) (application : ℕ) → Starts card application → Holds (takenBack card) (start application) card
 unfolding startWaiting
 starts-holds card application starts =
     record {
@@ -58,11 +58,11 @@ starts-holds card application starts =
 pub starts-small : (card : Card) (application : ℕ) → Starts card application → application < 64
 starts-small card application starts = omega (arith, few-entries (card .table) (card .files) (card-table card (starts .sound)), starts .inside)
 
-module _ (before : Card) (s : Standing) (waiting : List ℕ) (card : Card) (h : Holds before s waiting card) where
+module _ (before : Card) (s : Session) (card : Card) (h : Holds before s card) where
   abbrev pub Carries : Plan → Type 0
   Carries p =
-      let m : Moved = carriedOut p waiting card in
-      Holds before (m .session) (m .waiting) (m .card)
+      let m : Moved = carriedOut p (s .waiting) card in
+      Holds before (m .session) (m .card)
 
   plan-holds : {c : Command} (p : Plan) → Fit card c p → HasRoom (card .journal) (cost (p .writes)) → Carries p
   unfolding carriedOut
@@ -74,16 +74,16 @@ module _ (before : Card) (s : Standing) (waiting : List ℕ) (card : Card) (h : 
         sound = perform-sound (p .writes) card (h .sound) (fit .forms) left (h .trial);
         trial = rw (perform-scripts (p .writes) card fits ok left) (h .trial);
         good = good-kept (card .table) (perform (p .writes) card .table) rows (p .session) (fit .good);
-        waiting = let m = fit .made in let w = h .waiting in write-length waiting 0 (p .made) (omega arith) ∙ w;
+        waiting = let m = fit .made in let w = h .waiting in write-length (s .waiting) 0 (p .made) (omega arith) ∙ w;
         back = back-perform (p .writes) card fits ok left ∙ h .back;
       }
 
-  pub command-holds : (format : Format) (domain : ℕ) (c : Command) («data» : List ℕ) → length «data» ≤ 255 → Carries (planned (situation format domain c «data» s card))
+  pub command-holds : (format : Format) (domain : ℕ) (c : Command) («data» : List ℕ) → length «data» ≤ 255 → Carries (planned (situation format domain c «data» (s .standing) card))
   command-holds format domain c «data» brief =
-      plan-holds (planned (situation format domain c «data» s card))
-      (planned-fit format domain c «data» s card (card-table card (h .sound)) (h .good) brief)
-      (planned-room format domain c «data» s card (card-parts card (h .sound)))
+      plan-holds (planned (situation format domain c «data» (s .standing) card))
+      (planned-fit format domain c «data» (s .standing) card (card-table card (h .sound)) (h .good) brief)
+      (planned-room format domain c «data» (s .standing) card (card-parts card (h .sound)))
 
-  pub failed-holds : (k : Check) → Carries (failed s k)
+  pub failed-holds : (k : Check) → Carries (failed (s .standing) k)
   unfolding failed carriedOut perform overwrite
   failed-holds k = h

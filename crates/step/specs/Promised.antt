@@ -1,15 +1,18 @@
 -- What running a command on a card asks for.
-use Prim.Native.Nat.{ℕ, _≤_, _<_}
+use Prim.Native.Nat.{ℕ, _≤_}
 use mathlib.Core.Path.{_≡_}
 use mathlib.Core.List.{List}
 use lib.ListN.{length}
 use Rattle.card.specs.Row.{Card}
 use Rattle.session.specs.declared.Standing.{Standing}
+use Rattle.session.specs.Session.{mostWaiting}
 use Rattle.command.specs.declared.Command.{Command}
 use Rattle.decide.specs.Promised.{Ready}
+use Rattle.step.specs.Limits.{mostKept}
 
--- a command with lc data bytes may run in a session on a card, after `count` others and with so many bytes of R-APDUs kept; 255 bytes
--- are lent for what it makes, and 255 for what waits
-abbrev pub MayRun : Card → Standing → Command → ℕ → ℕ → ℕ → List ℕ → List ℕ → Type 0
-MayRun card s c lc count kept made waiting =
-    Ready card s c lc × (count < 65535) × (kept ≤ 1000) × (length made ≡ 255) × (length waiting ≡ 255)
+-- a command with lc data bytes may run on a card where a script stands so, with `before` bytes of R-APDUs kept and these bytes lent for
+-- what it makes
+pub record MayRun (card : Card) (s : Standing) (c : Command) (lc before : ℕ) (bytes : List ℕ) : Type 0 where
+  pub ready : Ready card s c lc
+  pub kept : before ≤ mostKept
+  pub made : length bytes ≡ mostWaiting

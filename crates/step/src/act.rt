@@ -1,5 +1,5 @@
 // Doing what was decided: the one function that stores into a card while a script runs.
-use command::Step;
+use command::Outcome;
 use journal::Head;
 use journal::Memory;
 use journal::read::head_of;
@@ -7,12 +7,14 @@ use journal::write::write;
 use plan::Change;
 use plan::Decision;
 use plan::NewRecord;
+use session::Standing;
 ghost use mathlib.Core.Path.{_≡_};
 ghost use Prim.Native.Nat.{_+_, _<_};
 ghost use lib.ListN.{length};
 ghost use Rattle.card.specs.Row.{lent};
 ghost use Rattle.journal.specs.Entries.{HasRoom};
 ghost use Rattle.journal.specs.Changes as changes;
+ghost use Rattle.session.specs.Session.{mostWaiting, sessionOf};
 ghost use Rattle.step.specs.Steps.{carriedOut, movedTo};
 ghost use Rattle.plan.specs.Promised.{recordWrites, writesOf, planOf, WriteRecordFits, Fits};
 
@@ -93,31 +95,31 @@ pub fn perform(
     }
 }
 
-// A decision is done, with what the command made: the script's step after it, with one command more.
+// Where a script stands after a command, and how the command ended.
+pub struct Done {
+    pub standing: Standing,
+    pub outcome: Outcome,
+}
+
+// A decision is done, with what the command made put to the front of the waiting bytes.
 pub fn carry_out(
     d: Decision,
     data: &[u8],
     made: &[u8],
-    count: usize,
     waiting: &mut [u8],
     table: &mut [u8],
     files: &mut [u8],
     journal: &mut [u8],
-) -> Step
-    requires { ⌜ Fits (length (now table)) (length (now files)) (length (now «data»)) (d .change) × (length (now made) ≡ 255) × (length (now waiting) ≡ 255) × (length (now journal) < 65536) × HasRoom (now journal) (changes.cost (planOf d (now «data») (now made) .writes)) × (count < 65535) ⌝ }
-    ensures { λ r. ⌜ (movedTo (r .session) (r .outcome) (now (waiting .exit)) (lent (now (table .exit)) (now (files .exit)) (now (journal .exit)))
-        ≡ carriedOut (planOf d (now («data» .entry)) (now (made .entry))) (now (waiting .entry)) (lent (now (table .entry)) (now (files .entry)) (now (journal .entry))))
-        × (r .count ≡ count + 1) ⌝ }
+) -> Done
+    requires { ⌜ Fits (length (now table)) (length (now files)) (length (now «data»)) (d .change) × (length (now made) ≡ mostWaiting) × (length (now waiting) ≡ mostWaiting) × (length (now journal) < 65536) × HasRoom (now journal) (changes.cost (planOf d (now «data») (now made) .writes)) ⌝ }
+    ensures { λ r. ⌜ movedTo (sessionOf (r .standing) (now (waiting .exit))) (r .outcome) (lent (now (table .exit)) (now (files .exit)) (now (journal .exit)))
+        ≡ carriedOut (planOf d (now («data» .entry)) (now (made .entry))) (now (waiting .entry)) (lent (now (table .entry)) (now (files .entry)) (now (journal .entry))) ⌝ }
 {
     let change = d.change;
-    let session = d.session;
+    let standing = d.session;
     let outcome = d.outcome;
     let n = d.made as usize;
     perform(change, data, made, table, files, journal);
     octets::copy(waiting, 0, &made[..n]);
-    Step {
-        session,
-        outcome,
-        count: count + 1,
-    }
+    Done { standing, outcome }
 }

@@ -1,17 +1,17 @@
-// A session that is lent to a command: its directory, file and record number move on, and with them the waiting bytes.
+// "One session's directory, file, record number and waiting bytes move on with each command": the session is lent to a thin step, which
+// calls the by-value command function.
 use crate::run_command;
 use command::Command;
 use command::Format;
 use command::Outcome;
 use command::Step;
-use session::Standing;
+use session::Session;
 ghost use mathlib.Core.Path.{_≡_};
-ghost use Prim.Native.Nat.{_+_};
+ghost use Prim.Native.Nat.{_+_, _<_};
 ghost use lib.ListN.{length};
 ghost use Rattle.card.specs.Row.{lent};
-ghost use Rattle.step.specs.Steps.{stateOf, stepped, movedTo};
-ghost use Rattle.step.specs.Steps as spec;
-ghost use Rattle.step.specs.Promised.{MayRun};
+ghost use Rattle.step.specs.Steps.{stateOf, stepped, movedTo, commanded};
+ghost use Rattle.step.specs.Promised as spec;
 
 // How a command ended, and how many there were with it.
 pub struct Ended {
@@ -19,9 +19,9 @@ pub struct Ended {
     count: usize,
 }
 
-// One command on a card, with its data, after `count` others: the lent session moves on.
+// One command on a card, with its data, after `count` others: the lent session moves on. Returns how the command ended, and the count.
 fn step(
-    session: &mut Standing,
+    session: &mut Session,
     format: Format,
     domain: usize,
     c: Command,
@@ -30,14 +30,13 @@ fn step(
     kept: usize,
     counts: bool,
     made: &mut [u8],
-    waiting: &mut [u8],
     table: &mut [u8],
     files: &mut [u8],
     journal: &mut [u8],
 ) -> Ended
-    requires { ⌜ MayRun (lent (now table) (now files) (now journal)) (now session) c (length (now «data»)) count kept (now made) (now waiting) ⌝ }
-    ensures { λ r. ⌜ (movedTo (now (session .exit)) (r .outcome) (now (waiting .exit)) (lent (now (table .exit)) (now (files .exit)) (now (journal .exit)))
-        ≡ spec.commanded format domain c (now («data» .entry)) (now (session .entry)) kept counts (now (waiting .entry)) (lent (now (table .entry)) (now (files .entry)) (now (journal .entry))))
+    requires { ⌜ spec.MayRun (lent (now table) (now files) (now journal)) (now session .standing) c (length (now «data»)) kept (now made) × (count < 65535) ⌝ }
+    ensures { λ r. ⌜ (movedTo (now (session .exit)) (r .outcome) (lent (now (table .exit)) (now (files .exit)) (now (journal .exit)))
+        ≡ commanded format domain c (now («data» .entry)) (now (session .entry)) kept counts (lent (now (table .entry)) (now (files .entry)) (now (journal .entry))))
         × (r .count ≡ count + 1) ⌝ }
 {
     let after = run_command(
@@ -45,24 +44,23 @@ fn step(
         domain,
         c,
         data,
-        *session,
-        count,
+        session.standing,
         kept,
         counts,
         made,
-        waiting,
+        &mut session.waiting,
         table,
         files,
         journal,
     );
-    *session = after.session;
+    session.standing = after.standing;
     Ended {
         outcome: after.outcome,
-        count: after.count,
+        count: count + 1,
     }
 }
 
-// One command on a card, with its data: the script's step after it.
+// One command on a card, with its data: returns the script's step after it.
 pub fn run_step(
     format: Format,
     domain: usize,
@@ -72,15 +70,14 @@ pub fn run_step(
     kept: usize,
     counts: bool,
     made: &mut [u8],
-    waiting: &mut [u8],
     table: &mut [u8],
     files: &mut [u8],
     journal: &mut [u8],
 ) -> Step
-    requires { ⌜ MayRun (lent (now table) (now files) (now journal)) (before .session) c (length (now «data»)) (before .count) kept (now made) (now waiting) ⌝ }
-    ensures { λ r. ⌜ stateOf r (now (waiting .exit)) (lent (now (table .exit)) (now (files .exit)) (now (journal .exit)))
-        ≡ stepped (stateOf before (now (waiting .entry)) (lent (now (table .entry)) (now (files .entry)) (now (journal .entry))))
-        (spec.commanded format domain c (now («data» .entry)) (before .session) kept counts (now (waiting .entry)) (lent (now (table .entry)) (now (files .entry)) (now (journal .entry)))) ⌝ }
+    requires { ⌜ spec.MayRun (lent (now table) (now files) (now journal)) (before .session .standing) c (length (now «data»)) kept (now made) × (before .count < 65535) ⌝ }
+    ensures { λ r. ⌜ stateOf r (lent (now (table .exit)) (now (files .exit)) (now (journal .exit)))
+        ≡ stepped (stateOf before (lent (now (table .entry)) (now (files .entry)) (now (journal .entry))))
+        (commanded format domain c (now («data» .entry)) (before .session) kept counts (lent (now (table .entry)) (now (files .entry)) (now (journal .entry)))) ⌝ }
 {
     let mut session = before.session;
     let ended = step(
@@ -93,7 +90,6 @@ pub fn run_step(
         kept,
         counts,
         made,
-        waiting,
         table,
         files,
         journal,

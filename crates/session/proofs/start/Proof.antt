@@ -1,7 +1,7 @@
 -- `session::start` meets its contract. Assumes nothing.
 use mathlib.Core.Path.{refl}
 use borrow.Author.Needs.{needs}
-use Rattle.session.specs.Session.{start}
+use Rattle.session.specs.Session.{startStanding, startWaiting}
 use Rattle.session.proofs.start.Statement.{statement}
 use Rattle.session.proofs.start.Tie as tie
 
@@ -9,7 +9,7 @@ cast-root : tie.Need-cast-root
 cast-root c = search needs
 
 returns : tie.Need-returns
-unfolding start
+unfolding startStanding startWaiting
 returns c = refl
 
 pub start-spec : {M : Type 1} → statement M

@@ -13,34 +13,45 @@ use borrow.Author.Needs.{needs}
 use Rattle.step.proofs.run_command.Statement.{statement}
 use Rattle.step.proofs.run_command.Tie as tie
 
-decide-requires : tie.Need-decide-requires
-decide-requires c κs = search needs
+-- where the command starts, from where it was decided
+abbrev start : tie.After-decide → tie.Start
+start c =
+    let at-args = c .before .before .before .before in
+    let at-slices = at-args .before .before .before in
+    at-slices .before .before .before .before
 
 -- the card
 abbrev cardOf : tie.Start → Card
 cardOf s = lent (s .args .table .now) (s .args .files .now) (s .args .journal .now)
 
+decide-requires : tie.Need-decide-requires
+decide-requires c κs =
+    let at-slices = c .before .before .before .before in
+    let s = at-slices .before .before .before .before .before .before in
+    (s .pre .0 .ready, s .pre .0 .made)
+
 limited-requires : tie.Need-limited-requires
 limited-requires c κs =
-    let s = c .before .before .before .before .before .before .before .before .before .before .before .before .before in
-    (s .pre .2, decided-few (s .args .format) (s .args .domain) (s .args .c) (s .args .«data» .now) (s .args .s) (cardOf s) (s .pre .0) _ (c .before .before .decide .result) (c .before .before .decide .ensures))
+    let at-decide = c .before .before in
+    let s = start at-decide in
+    let d = at-decide .decide in
+    (s .pre .0 .kept, decided-few (s .args .format) (s .args .domain) (s .args .c) (s .args .«data» .now) (s .args .s) (cardOf s) (s .pre .0 .ready) _ (d .result) (d .ensures))
 
--- where a command started that was held to the 1,000 bytes
-abbrev start : tie.After-limited → tie.Start
-start c = c .before .before .before .before .before .before .before .before .before .before .before .before .before .before
+-- where the command was decided, from where it was held to the 1,000 bytes
+abbrev decided : tie.After-limited → tie.After-decide
+decided c = c .before .before .before
 
 carry-out-requires : tie.Need-carry-out-requires
 carry-out-requires c κs =
-    let k = c .before .before .before .before .before in
-    let s = start k in
-    let d = k .limited .ensures _ _ _ _ (k .before .before .before .decide .ensures) in
-    let whole : length (s .args .journal .now) ≡ 2048 = card-parts (cardOf s) (s .pre .0 .sound) .size in (
+    let at-limited = c .before .before .before .before .before in
+    let s = start (decided at-limited) in
+    let d = at-limited .limited .ensures _ _ _ _ (decided at-limited .decide .ensures) in
+    let whole : length (s .args .journal .now) ≡ 2048 = card-parts (cardOf s) (s .pre .0 .ready .sound) .size in (
       d .fits,
       search needs,
-      s .pre .4,
+      s .pre .1,
       omega arith,
       subst (λ (p : Plan). HasRoom (s .args .journal .now) (cost (p .writes))) (sym (d .same)) (d .journal),
-      s .pre .1,
     )
 
 same-length : tie.Need-same-length
@@ -60,10 +71,12 @@ same-length-5 c = search needs
 
 returns : tie.Need-returns
 returns c =
-    let k = c .before .before .before .before .before .before .before .before .before .before .before .before .before .before in
-    let d = k .limited .ensures _ _ _ _ (k .before .before .before .decide .ensures) in
-    let carried = c .before .before .before .before .before .before .before .before .carry-out .ensures in
-    (carried .0 ∙ ap (λ (p : Plan). carriedOut p (start k .args .waiting .now) (cardOf (start k))) (d .same), carried .1)
+    let at-table = c .before .before .before .before .before in
+    let at-carry-out = at-table .before .before .before in
+    let at-limited = at-carry-out .before .before .before .before .before .before in
+    let s = start (decided at-limited) in
+    let d = at-limited .limited .ensures _ _ _ _ (decided at-limited .decide .ensures) in
+    at-carry-out .carry-out .ensures ∙ ap (λ (p : Plan). carriedOut p (s .args .waiting .now) (cardOf s)) (d .same)
 
 pub run-command-spec : {M : Type 1} → statement M
 run-command-spec =

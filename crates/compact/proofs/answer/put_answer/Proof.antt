@@ -1,6 +1,8 @@
 -- `compact::answer::put_answer` meets its contract. Assumes nothing.
-use mathlib.Core.Path.{sym, _∙_}
+use mathlib.Core.Path.{_≡_, sym, _∙_}
+use lib.ListN.{length}
 use borrow.Author.Needs.{needs}
+use Rattle.session.specs.Session.{mostWaiting}
 use Rattle.compact.proofs.Answered.{answer-length, answer-steps}
 use Rattle.compact.proofs.answer.put_answer.Statement.{statement}
 use Rattle.compact.proofs.answer.put_answer.Tie as tie
@@ -25,13 +27,19 @@ same-length c = search needs
 
 returns : tie.Need-returns
 returns c =
-    let s = c .before .before .before .before .before .before .before .before .before .before .before .before .before .before .before .before .before in (
-      answer-steps (s .args .step) (s .args .files .now) (s .args .waiting .now) (s .pre .1) (s .pre .0) (s .args .response .now) _ _ _ _ (s .pre .3)
-          (c .before .before .before .before .before .before .before .before .before .before .before .fill .ensures)
-          (c .before .before .before .before .before .before .before .word-of .ensures)
-          (c .before .before .before .before .before .before .put-num .ensures)
-          (c .before .before .put-data .ensures .0),
-      c .before .before .put-data .ensures .1 ∙ sym (answer-length (s .args .step) (s .args .files .now) (s .args .waiting .now) (s .pre .1) (s .pre .0)),
+    let at-put-data = c .before .before in
+    let at-data = at-put-data .before .before .before in
+    let at-put-num = at-data .before .before .before .before in
+    let at-word = at-put-num .before in
+    let at-fill = at-word .before .before .before .before in
+    let s = at-fill .before .before .before .before .before .before in
+    let long : length (s .args .step .session .waiting) ≡ mostWaiting = at-put-data .before .put-data-arg3 .given .0 in (
+      answer-steps (s .args .step) (s .args .files .now) (s .pre .0) long (s .args .response .now) _ _ _ _ (s .pre .2)
+          (at-fill .fill .ensures)
+          (at-word .word-of .ensures)
+          (at-put-num .put-num .ensures)
+          (at-put-data .put-data .ensures .0),
+      at-put-data .put-data .ensures .1 ∙ sym (answer-length (s .args .step) (s .args .files .now) (s .pre .0) long),
     )
 
 pub put-answer-spec : {M : Type 1} → statement M

@@ -6,6 +6,7 @@ use lib.ListN.{length}
 use borrow.Author.Needs.{needs}
 use Rattle.octets.proofs.Picks.{told-false, told-true}
 use Rattle.card.specs.Row.{lent}
+use Rattle.session.specs.Session.{mostWaiting}
 use Rattle.command.specs.declared.Outcome.the-variants.{Well}
 use Rattle.command.specs.Outcomes.{goesOn}
 use Rattle.step.specs.Steps.{started}
@@ -16,30 +17,28 @@ use Rattle.compact.proofs.run.run.Statement.{statement}
 use Rattle.compact.proofs.run.run.Tie as tie
 
 abbrev Inv-loop : tie.InvT-loop
-Inv-loop script application domain waiting₀ table₀ files₀ journal₀ step₀ made₀ at₀ waiting table files journal step made at =
-    (length waiting ≡ length waiting₀)
-    × (length table ≡ length table₀)
+Inv-loop script application domain table₀ files₀ journal₀ step₀ made₀ at₀ table files journal step made at =
+    (length table ≡ length table₀)
     × (length files ≡ length files₀)
     × (length journal ≡ length journal₀)
-    × (length made ≡ 255)
-    × Going script application domain (lent table₀ files₀ journal₀) waiting (lent table files journal) step at
+    × (length made ≡ mostWaiting)
+    × Going script application domain (lent table₀ files₀ journal₀) (lent table files journal) step at
 
 abbrev μ-loop : tie.MeasureT-loop
-μ-loop script application domain waiting₀ table₀ files₀ journal₀ step₀ made₀ at₀ waiting table files journal step made at = length script - at
+μ-loop script application domain table₀ files₀ journal₀ step₀ made₀ at₀ table files journal step made at = length script - at
 
 start-requires : tie.Need-start-requires Inv-loop μ-loop
-start-requires c κs = omega (arith, starts-small _ _ (c .before .before .before .before .before .pre .0))
+start-requires c κs = omega (arith, starts-small _ _ (c .before .before .before .before .pre .0))
 
 loop-holds : tie.Need-loop-holds Inv-loop μ-loop
 unfolding started
 loop-holds c =
-    let s = c .before .before .before .before .before .before in (
+    let s = c .before .before .before .before .before in (
       refl,
       refl,
       refl,
       refl,
-      refl,
-      rw (s .pre .2) (begins (s .pre .0) (λ i. record { session = c .start .ensures i; outcome = Well 0x9000; count = 0 })),
+      begins (s .pre .0) (λ i. record { session = c .start .ensures i; outcome = Well 0x9000; count = 0 }),
     )
 
 next-reading-requires : tie.Need-next-reading-requires Inv-loop μ-loop
@@ -50,12 +49,16 @@ slice-aggregate-step-read c = search needs
 
 step-read-requires : tie.Need-step-read-requires Inv-loop μ-loop
 step-read-requires c κs =
-    let fits = c .before .before .before .before .before .next-reading .ensures .1 in
-    let l = c .before .before .before .before .before .before .before .loop .inv in
-    let g = l .5 in
+    let at-reading = c .before .before .before .before in
+    let at-loop = at-reading .before .before in
+    let at-start = at-loop .before in
+    let s = at-start .before .before .before .before .before in
+    let fits = at-reading .next-reading .ensures .1 in
+    let l = at-loop .loop .inv in
+    let g = l .4 in
     let few = g .counted in
-    let short = c .before .before .before .before .before .before .before .before .before .before .before .before .before .before .pre .1 in
-    (fits .inside, (record { sound = g .holds .sound; good = g .holds .good; bytes = fits .bytes }, omega arith, omega arith, l .4, g .holds .waiting))
+    let short = s .pre .1 in
+    (fits .inside, record { ready = record { sound = g .holds .sound; good = g .holds .good; bytes = fits .bytes }; kept = omega arith; made = l .3 }, omega arith)
 
 word-of-requires : tie.Need-word-of-requires Inv-loop μ-loop
 word-of-requires c κs = search needs
@@ -72,45 +75,66 @@ same-length-2 c = omega arith
 same-length-3 : tie.Need-same-length-3 Inv-loop μ-loop
 same-length-3 c = omega arith
 
-same-length-4 : tie.Need-same-length-4 Inv-loop μ-loop
-same-length-4 c = omega arith
-
 returns : tie.Need-returns Inv-loop μ-loop
 returns c =
-    let l = c .before .before .before .before .before .before .before .before .before .before .before .before .before .before .before .before .before .before .before .before .loop in
-    let r = c .before .before .before .before .before .before .before .before .before .before .before .before .before .before .before .before .before .before .next-reading in
-    let done = c .before .before .before .before .before .before .before .before .before .before .before .before .step-read in
-    stops (l .inv .5) (c .before .before .before .before .before .before .before .before .before .before .before .before .before .before .before .before .before .before .before .loop-test .taken) (done .ensures) (r .ensures .0)
-    (sym (ap goesOn (c .before .before .word-of .ensures)) ∙ told-false (c .before .goes-on .ensures) (c .if1 .taken))
+    let at-goes-on = c .before in
+    let at-word = at-goes-on .before in
+    let at-table = at-word .before .before .before .before .before .before in
+    let at-step-read = at-table .before .before in
+    let at-reading = at-step-read .before .before .before .before .before in
+    let in-loop = at-reading .before in
+    let at-loop = in-loop .before in
+    stops (at-loop .loop .inv .4) (in-loop .loop-test .taken) (at-step-read .step-read .ensures) (at-reading .next-reading .ensures .0)
+    (sym (ap goesOn (at-word .word-of .ensures)) ∙ told-false (at-goes-on .goes-on .ensures) (c .if1 .taken))
 
 add-at : tie.Need-add-at Inv-loop μ-loop
 unfolding placeAfter
 add-at c =
-    let inside = c .before .before .before .before .before .before .before .before .before .before .before .before .before .before .before .before .before .before .before .next-reading .ensures .1 .inside in
-    let short = c .before .before .before .before .before .before .before .before .before .before .before .before .before .before .before .before .before .before .before .before .before .before .before .before .before .before .before .before .pre .1 in
+    let at-word = c .before .before .before in
+    let at-table = at-word .before .before .before .before .before .before in
+    let at-step-read = at-table .before .before in
+    let at-reading = at-step-read .before .before .before .before .before in
+    let at-loop = at-reading .before .before in
+    let s = at-loop .before .before .before .before .before .before in
+    let inside = at-reading .next-reading .ensures .1 .inside in
+    let short = s .pre .1 in
     omega arith
 
 loop-less : tie.Need-loop-less Inv-loop μ-loop
 unfolding placeAfter
 loop-less c =
-    let fits = c .before .before .before .before .before .before .before .before .before .before .before .before .before .before .before .before .before .before .before .next-reading .ensures .1 in
+    let at-word = c .before .before .before in
+    let at-table = at-word .before .before .before .before .before .before in
+    let at-step-read = at-table .before .before in
+    let at-reading = at-step-read .before .before .before .before .before in
+    let fits = at-reading .next-reading .ensures .1 in
     let inside = fits .inside in
     let further = fits .further in
     omega arith
 
 loop-again : tie.Need-loop-again Inv-loop μ-loop
 loop-again c =
-    let l = c .before .before .before .before .before .before .before .before .before .before .before .before .before .before .before .before .before .before .before .before .before .loop in
-    let r = c .before .before .before .before .before .before .before .before .before .before .before .before .before .before .before .before .before .before .before .next-reading in
-    let done = c .before .before .before .before .before .before .before .before .before .before .before .before .before .step-read in (
+    let at-else = c .before in
+    let at-goes-on = at-else .before in
+    let at-word = at-goes-on .before in
+    let at-files = at-word .before .before .before .before in
+    let at-table = at-files .before .before in
+    let at-step-read = at-table .before .before in
+    let at-reading = at-step-read .before .before .before .before .before in
+    let in-loop = at-reading .before in
+    let at-loop = in-loop .before in
+    let at-script = at-loop .before .before .before .before .before in
+    let r = at-reading .next-reading .ensures in (
+      omega (arith, at-table .table .given),
+      omega (arith, at-files .files .given),
       omega arith,
-      omega (arith, c .before .before .before .before .before .before .before .before .before .table .given),
-      omega (arith, c .before .before .before .before .before .before .before .files .given),
       omega arith,
-      omega arith,
-      goes (l .inv .5) (c .before .before .before .before .before .before .before .before .before .before .before .before .before .before .before .before .before .before .before .before .loop-test .taken) (done .ensures) (r .ensures .0) (λ i. c .before .before .before .before .before .before .before .before .before .before .before .before .before .before .before .before .before .before .before .before .before .before .before .before .before .before .before .shared-slice-known .given i .fits) (r .ensures .1)
-          (sym (ap goesOn (c .before .before .before .word-of .ensures)) ∙ told-true (c .before .before .goes-on .ensures) (c .before .if1 .left)),
+      goes (at-loop .loop .inv .4) (in-loop .loop-test .taken) (at-step-read .step-read .ensures) (r .0) (λ i. at-script .shared-slice-known .given i .fits) (r .1)
+          (sym (ap goesOn (at-word .word-of .ensures)) ∙ told-true (at-goes-on .goes-on .ensures) (at-else .if1 .left)),
     )
+
+same-length-4 : tie.Need-same-length-4 Inv-loop μ-loop
+same-length-4 c = omega arith
 
 same-length-5 : tie.Need-same-length-5 Inv-loop μ-loop
 same-length-5 c = omega arith
@@ -118,15 +142,8 @@ same-length-5 c = omega arith
 same-length-6 : tie.Need-same-length-6 Inv-loop μ-loop
 same-length-6 c = omega arith
 
-same-length-7 : tie.Need-same-length-7 Inv-loop μ-loop
-same-length-7 c = omega arith
-
-same-length-8 : tie.Need-same-length-8 Inv-loop μ-loop
-same-length-8 c = omega arith
-
 returns-2 : tie.Need-returns-2 Inv-loop μ-loop
-returns-2 c =
-    ends (c .before .loop .inv .5) (omega arith)
+returns-2 c = ends (c .before .loop .inv .4) (omega arith)
 
 pub run-spec : {M : Type 1} → statement M
 run-spec =
@@ -144,13 +161,11 @@ run-spec =
     same-length
     same-length-2
     same-length-3
-    same-length-4
     returns
     add-at
     loop-less
     loop-again
+    same-length-4
     same-length-5
     same-length-6
-    same-length-7
-    same-length-8
     returns-2)

@@ -20,16 +20,20 @@ use Rattle.compact.specs.Compact.{placeAfter, stepRead}
 use Rattle.compact.proofs.run.step_read.Statement.{statement}
 use Rattle.compact.proofs.run.step_read.Tie as tie
 
-told : (script : List ℕ) (domain : ℕ) (reading : Reading) (before : Step) (waiting : List ℕ) (card : Card) {«data» : List ℕ} {st : State} → «data» ≡ part script (reading .from) (reading .count)
-    → st ≡ stepped (stateOf before waiting card) (commanded Compact domain (reading .command) «data» (before .session) 0 false waiting card)
-    → st ≡ stepRead script domain reading (stateOf before waiting card)
+told : (script : List ℕ) (domain : ℕ) (reading : Reading) (before : Step) (card : Card) {«data» : List ℕ} {st : State} → «data» ≡ part script (reading .from) (reading .count)
+    → st ≡ stepped (stateOf before card) (commanded Compact domain (reading .command) «data» (before .session) 0 false card)
+    → st ≡ stepRead script domain reading (stateOf before card)
 unfolding stepRead limited pick
-told script domain reading before waiting card {«data»} {st} hd e =
-    subst (λ (d : List ℕ). st ≡ stepped (stateOf before waiting card) (carriedOut (planned (situation Compact domain (reading .command) d (before .session) card)) waiting card)) hd e
+told script domain reading before card {«data»} {st} hd e =
+    subst (λ (d : List ℕ). st ≡ stepped (stateOf before card) (carriedOut (planned (situation Compact domain (reading .command) d (before .session .standing) card)) (before .session .waiting) card)) hd e
+
+-- where it starts, from where the reading is taken apart
+abbrev start : tie.After-struct-known → tie.Start
+start c = c .before .before .before .before .before .before
 
 add-end : tie.Need-add-end
 unfolding placeAfter
-add-end c = let inside = c .before .before .before .before .before .before .before .pre .0 in omega arith
+add-end c = let inside = start c .pre .0 in omega arith
 
 sub-run-step : tie.Need-sub-run-step
 sub-run-step c = search needs
@@ -39,21 +43,24 @@ part-run-step-start c = search needs
 
 part-run-step-end : tie.Need-part-run-step-end
 unfolding placeAfter
-part-run-step-end c = let inside = c .before .before .before .before .before .before .before .before .pre .0 in omega arith
+part-run-step-end c = let inside = start (c .before) .pre .0 in omega arith
 
 run-step-requires : tie.Need-run-step-requires
 run-step-requires c κs =
-    let s = c .before .before .before .before .before .before .before .before .before .before .before .before .before .before in
+    let at-command = c .before .before .before .before .before in
+    let s = start (at-command .before) in
     let may = s .pre .1 in (
       record {
-        sound = may .0 .sound;
-        good = may .0 .good;
-        bytes = lent-bytes (s .args .script .now) (s .args .reading .from) (may .0 .bytes);
+        ready =
+            record {
+              sound = may .ready .sound;
+              good = may .ready .good;
+              bytes = lent-bytes (s .args .script .now) (s .args .reading .from) (may .ready .bytes);
+            };
+        kept = may .kept;
+        made = may .made;
       },
-      may .1,
-      may .2,
-      may .3,
-      may .4,
+      s .pre .2,
     )
 
 same-length : tie.Need-same-length
@@ -68,14 +75,14 @@ same-length-3 c = search needs
 same-length-4 : tie.Need-same-length-4
 same-length-4 c = search needs
 
-same-length-5 : tie.Need-same-length-5
-same-length-5 c = search needs
-
 returns : tie.Need-returns
 returns c =
-    let s = c .before .before .before .before .before .before .before .before .before .before .before .before .before .before .before .before .before .before .before .before .before .before .before .before .before in
-    told (s .args .script .now) (s .args .domain) (s .args .reading) (s .args .before) (s .args .waiting .now) (lent (s .args .table .now) (s .args .files .now) (s .args .journal .now))
-    (part-lent (s .args .script .now) (s .args .reading .from) (s .args .reading .count)) (c .before .before .before .before .before .before .before .before .before .before .run-step .ensures)
+    let at-table = c .before .before .before .before .before in
+    let at-run-step = at-table .before .before .before in
+    let at-command = at-run-step .before .before .before .before .before .before in
+    let s = start (at-command .before) in
+    told (s .args .script .now) (s .args .domain) (s .args .reading) (s .args .before) (lent (s .args .table .now) (s .args .files .now) (s .args .journal .now))
+    (part-lent (s .args .script .now) (s .args .reading .from) (s .args .reading .count)) (at-run-step .run-step .ensures)
 
 pub step-read-spec : {M : Type 1} → statement M
 step-read-spec =
@@ -90,5 +97,4 @@ step-read-spec =
     same-length-2
     same-length-3
     same-length-4
-    same-length-5
     returns)

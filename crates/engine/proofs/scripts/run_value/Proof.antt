@@ -5,7 +5,6 @@ use native.Mathlib.Omega.{arith}
 use lib.ListN.{length-take}
 use lib.Seq.{length-take-le}
 use borrow.Author.Needs.{needs}
-use Rattle.session.specs.Session.{startWaiting}
 use Rattle.engine.proofs.Ended.{expanded-small, value-gives}
 use Rattle.engine.proofs.scripts.run_value.Statement.{statement}
 use Rattle.engine.proofs.scripts.run_value.Tie as tie
@@ -13,11 +12,7 @@ use Rattle.engine.proofs.scripts.run_value.Tie as tie
 slice-aggregate-run : tie.Need-slice-aggregate-run
 slice-aggregate-run c = search needs
 
-slice-aggregate-run-2 : tie.Need-slice-aggregate-run-2
-slice-aggregate-run-2 c = search needs
-
 run-requires : tie.Need-run-requires
-unfolding startWaiting
 run-requires c κs = search needs
 
 add-gathered : tie.Need-add-gathered
@@ -26,15 +21,24 @@ add-gathered c = search needs
 array-share-prefix-rapdus : tie.Need-array-share-prefix-rapdus
 array-share-prefix-rapdus c = search needs
 
+-- where the items were run, from where the gathered bytes are lent
+abbrev ran : tie.After-rapdus3 → tie.After-run
+ran c =
+    let at-journal = c .before .before .before .before .before in
+    at-journal .before .before .before .before .before .before
+
 slice-aggregate-put-answer : tie.Need-slice-aggregate-put-answer
 slice-aggregate-put-answer c =
-    let r = c .before .before .before .before .before .before .before .before .before .before .before .before .run in
+    let r = ran c .run in
     sym (length-take-le (r .result .kept + r .result .last) _ (omega (arith, r .ensures .1)))
 
 put-answer-requires : tie.Need-put-answer-requires
 put-answer-requires c κs =
-    let r = c .before .before .before .before .before .before .before .before .before .before .before .before .run in (
-      omega (arith, c .before .before .before .before .before .before .before .before .before .before .before .before .before .before .before .before .before .before .before .before .before .before .before .pre .2 .2),
+    let at-run = ran c in
+    let at-rapdus = at-run .before .before .before .before in
+    let s = at-rapdus .before .before .before .before .before .before in
+    let r = at-run .run in (
+      omega (arith, s .pre .2 .2),
       rw length-take (omega (arith, r .ensures .1)),
       r .ensures .2,
     )
@@ -53,9 +57,10 @@ same-length-4 c = search needs
 
 returns : tie.Need-returns
 returns c =
-    let r = c .before .before .before .before .before .before .before .before .before .before .before .before .before .before .before .run in
-    let p = c .before .before .put-answer .ensures in (
-      value-gives _ _ _ _ _ (r .result) _ _ _ _ _ (r .ensures .0) (p .0) (p .1),
+    let at-put-answer = c .before .before in
+    let r = ran (at-put-answer .before) .run in
+    let p = at-put-answer .put-answer .ensures in (
+      value-gives _ _ _ _ _ (r .result) _ _ _ _ (r .ensures .0) (p .0) (p .1),
       expanded-small _ (r .result .step .count) _ (rw length-take (omega (arith, r .ensures .1))) (r .ensures .2) _ (p .1),
     )
 
@@ -64,7 +69,6 @@ run-value-spec =
     tie.close
     (tie.spec
     slice-aggregate-run
-    slice-aggregate-run-2
     run-requires
     add-gathered
     array-share-prefix-rapdus

@@ -5,6 +5,7 @@ use native.Mathlib.Omega.{arith}
 use borrow.Author.Needs.{needs}
 use lib.ListN.{length}
 use Rattle.octets.proofs.Picks.{yes, no}
+use Rattle.session.specs.Session.{mostWaiting}
 use Rattle.command.specs.Outcomes.{dataOf, dataCount}
 use Rattle.command.proofs.Outgoing.{data-length}
 use Rattle.step.specs.Limits.{rapduSize}
@@ -19,21 +20,31 @@ put-rapdu-requires c κs = search needs
 same-length : tie.Need-same-length
 same-length c = search needs
 
+-- where it starts, from where the R-APDU was written
+abbrev start : tie.After-put-rapdu → tie.Start
+start c =
+    let at-session = c .before .before .before .before .before in
+    at-session .before .before .before
+
 -- the bytes of the R-APDU
-sized : (s : tie.Start) → length (lastRapdu (s .args .step) (s .args .files .now) (s .args .waiting .now)) ≡ rapduSize (dataCount (s .args .step .outcome))
+sized : (c : tie.After-put-rapdu) → length (lastRapdu (start c .args .step) (start c .args .files .now)) ≡ rapduSize (dataCount (start c .args .step .outcome))
 unfolding lastRapdu
-sized s =
-    rapdu-length (dataOf (s .args .step .outcome) (s .args .files .now) (s .args .waiting .now)) _ ∙ ap rapduSize (data-length (s .args .step .outcome) (s .args .files .now) (s .args .waiting .now) (s .pre .1) (s .pre .0))
+sized c =
+    let s = start c in
+    let waiting = s .args .step .session .waiting in
+    let long : length waiting ≡ mostWaiting = c .before .put-rapdu-arg3 .given .0 in
+    rapdu-length (dataOf (s .args .step .outcome) (s .args .files .now) waiting) _ ∙ ap rapduSize (data-length (s .args .step .outcome) (s .args .files .now) waiting (s .pre .0) long)
 
 returns : tie.Need-returns
 unfolding lastRapdu gatheredIn
 returns c =
-    let put = c .before .before .before .put-rapdu in
-    let s = c .before .before .before .before .before .before .before .before in
-    (put .ensures .0, sized s, yes (s .args .counts) _ (c .if1 .taken) (λ i. record { step = s .args .step; kept = put .ensures .1 i; last = 0 }))
+    let at-put = c .before .before .before in
+    let put = at-put .put-rapdu in
+    let s = start at-put in
+    (put .ensures .0, sized at-put, yes (s .args .counts) _ (c .if1 .taken) (λ i. record { step = s .args .step; kept = put .ensures .1 i; last = 0 }))
 
-sub-t12 : tie.Need-sub-t12
-sub-t12 c = search needs
+sub-t14 : tie.Need-sub-t14
+sub-t14 c = search needs
 
 same-length-2 : tie.Need-same-length-2
 same-length-2 c = search needs
@@ -41,11 +52,12 @@ same-length-2 c = search needs
 returns-2 : tie.Need-returns-2
 unfolding lastRapdu gatheredIn
 returns-2 c =
-    let put = c .before .before .before .put-rapdu in
-    let s = c .before .before .before .before .before .before .before .before in
+    let at-put = c .before .before .before in
+    let put = at-put .put-rapdu in
+    let s = start at-put in
     let n : put .result - s .args .kept ≡ rapduSize (dataCount (s .args .step .outcome)) = omega arith in
-    (put .ensures .0, sized s, no (s .args .counts) _ (c .if1 .left) (λ i. record { step = s .args .step; kept = s .args .kept; last = n i }))
+    (put .ensures .0, sized at-put, no (s .args .counts) _ (c .if1 .left) (λ i. record { step = s .args .step; kept = s .args .kept; last = n i }))
 
 pub gather-spec : {M : Type 1} → statement M
 gather-spec =
-    tie.close (tie.spec put-rapdu-requires same-length returns sub-t12 same-length-2 returns-2)
+    tie.close (tie.spec put-rapdu-requires same-length returns sub-t14 same-length-2 returns-2)

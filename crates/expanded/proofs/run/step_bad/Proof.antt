@@ -23,7 +23,7 @@ unfolding badFormat
 returns c =
     let s = c .before .before .before .before .before .before .before in
     let put = c .before .before .before .before .put-bad in
-    (λ waiting card. bad-last (s .args .before) waiting card (s .args .out .now) (omega arith) (s .args .code) (omega arith) (put .ensures .0) (omega arith), omega arith)
+    (λ card. bad-last (s .args .before) card (s .args .out .now) (omega arith) (s .args .code) (omega arith) (put .ensures .0) (omega arith), omega arith)
 
 pub step-bad-spec : {M : Type 1} → statement M
 step-bad-spec = tie.close (tie.spec put-bad-requires add-step sub-t9 same-length returns)

@@ -1,14 +1,12 @@
 -- `expanded::run::step_capdu` meets its contract: the command is run under the 1,000-byte rule, and its R-APDU is gathered. Assumes nothing.
 use mathlib.Core.Path.{_≡_, sym}
 use mathlib.Core.Bool.{true}
-use mathlib.Core.List.{List}
-use Prim.Native.Nat.{ℕ, _+_, _-_, _≤_}
+use Prim.Native.Nat.{_+_, _≤_}
 use native.Mathlib.Omega.{arith}
 use lib.ListN.{length}
 use borrow.Author.Needs.{needs}
 use Rattle.octets.proofs.Writes.{part-lent}
 use Rattle.card.specs.Row.{Card, lent}
-use Rattle.session.specs.Session.{mostWaiting}
 use Rattle.command.specs.Outcomes.{wordOf, dataCount, goesOn}
 use Rattle.command.specs.Promised.{OutcomeFits}
 use Rattle.command.proofs.Lent.{lent-bytes}
@@ -19,8 +17,17 @@ use Rattle.expanded.proofs.Steps.{gathered-within, stands}
 use Rattle.expanded.proofs.run.step_capdu.Statement.{statement}
 use Rattle.expanded.proofs.run.step_capdu.Tie as tie
 
+-- where it starts, from where the C-APDU is taken apart; and where that is, from where its R-APDU is known to be kept or not
+abbrev start : tie.After-command-of → tie.Start
+start c =
+    let at-slices = c .before .before .before in
+    at-slices .before .before .before .before
+
+abbrev taken : tie.After-keeps → tie.After-command-of
+taken c = c .before .before .before
+
 command-of-requires : tie.Need-command-of-requires
-command-of-requires c κs = search needs
+command-of-requires c κs = c .before .before .before .before .before .before .pre .size
 
 add-end : tie.Need-add-end
 add-end c = search needs
@@ -39,44 +46,55 @@ part-run-step-end c = search needs
 
 run-step-requires : tie.Need-run-step-requires
 run-step-requires c κs =
-    let s = c .before .before .before .before .before .before .before .before .before .before .before .before .before .before .before .before .before in
-    let r = c .before .before .before .before .before .before .before .before .before .command-of in (
+    let at-keeps = c .before .before .before .before .before in
+    let s = start (taken at-keeps) in
+    let r = taken at-keeps .command-of in (
       record {
-        sound = s .pre .1;
-        good = s .pre .2;
-        bytes = lent-bytes (s .args .capdu .now) (r .result .from) (r .ensures .1 .bytes);
+        ready =
+            record {
+              sound = s .pre .sound;
+              good = s .pre .good;
+              bytes = lent-bytes (s .args .capdu .now) (r .result .from) (r .ensures .1 .bytes);
+            };
+        kept = s .pre .kept;
+        made = s .pre .made;
       },
-      s .pre .3,
-      s .pre .4,
-      s .pre .6,
-      s .pre .7,
+      s .pre .few,
     )
 
--- the waiting bytes and the card after the command, and what is known of its outcome
-abbrev bytes : tie.After-run-step → List ℕ
-bytes c = c .run-step .last .1 .1 .1 .1 .1 .1 .1 .1 .0
+-- where the R-APDU is known to be kept or not, from where the command was run
+abbrev kept : tie.After-run-step → tie.After-keeps
+kept c = c .before .before .before .before .before .before
 
+-- the card after the command, and what is known of its outcome
 abbrev after : tie.After-run-step → Card
-after c = lent (c .run-step .last .1 .1 .1 .1 .1 .1 .1 .1 .1 .0) (c .run-step .last .1 .1 .1 .1 .1 .1 .1 .1 .1 .1 .0) (c .run-step .last .1 .1 .1 .1 .1 .1 .1 .1 .1 .1 .1 .0)
+after c = let memories = c .run-step .last .1 .1 .1 .1 .1 .1 .1 .1 in lent (memories .0) (memories .1 .0) (memories .1 .1 .0)
 
 told : (c : tie.After-run-step)
-    → let kept = c .before .before .before .before .before .before .before .before .before .before .before .before .before .before .before .before .before .before .args .before .kept in
+    → let n = start (taken (kept c)) .args .before .kept in
     let outcome = c .run-step .result .outcome in
     OutcomeFits (length (after c .files)) outcome
-    × (length (bytes c) ≡ mostWaiting)
-    × (kept + rapduSize (dataCount outcome) ≤ roomToGather)
-    × (c .before .before .before .before .before .before .before .keeps .result ≡ true → goesOn (wordOf outcome) ≡ true → kept + rapduSize (dataCount outcome) ≤ mostKept)
+    × (n + rapduSize (dataCount outcome) ≤ roomToGather)
+    × (kept c .keeps .result ≡ true → goesOn (wordOf outcome) ≡ true → n + rapduSize (dataCount outcome) ≤ mostKept)
 told c =
-    let s = c .before .before .before .before .before .before .before .before .before .before .before .before .before .before .before .before .before .before in
-    let r = c .before .before .before .before .before .before .before .before .before .before .command-of in
+    let s = start (taken (kept c)) in
+    let r = taken (kept c) .command-of in
+    let k = kept c .keeps in
     let b = lent-bytes (s .args .capdu .now) (r .result .from) (r .ensures .1 .bytes) in
     let brief = b .brief in
-    step-told (s .args .before .kept) (c .before .before .before .before .before .before .before .keeps .result) (s .args .before .step .session) (s .pre .4) (lent (s .args .table .now) (s .args .files .now) (s .args .journal .now)) (s .pre .1) (s .pre .2)
-    (s .args .domain) (r .result .command) _ (omega arith) (b .p3) (s .args .waiting .now) (s .args .before .step) (c .run-step .result) (bytes c) (after c) (s .pre .7) (c .run-step .ensures)
-    (s .args .definite) (c .before .before .before .before .before .before .before .keeps .ensures)
+    let session = s .args .before .step .session in
+    step-told (s .args .before .kept) (k .result) (session .standing) (s .pre .kept) (lent (s .args .table .now) (s .args .files .now) (s .args .journal .now)) (s .pre .sound) (s .pre .good)
+    (s .args .domain) (r .result .command) _ (omega arith) (b .p3) (session .waiting) (s .args .before .step) (c .run-step .result) (after c) (c .run-step .ensures)
+    (s .args .definite) (k .ensures)
+
+-- where the command was run, from where the memories are lent on
+abbrev ran : tie.After-gather-arg2 → tie.After-run-step
+ran c =
+    let at-files = c .before .before .before .before .before in
+    at-files .before .before .before .before .before
 
 gather-requires : tie.Need-gather-requires
-gather-requires c κs = let h = told (c .before .before .before .before .before .before .before .before .before .before .before .before .before) in (h .1, h .0, omega (arith, h .2, c .before .before .before .before .before .before .before .before .before .before .before .before .before .before .before .before .before .before .before .before .before .before .before .before .before .before .before .before .before .before .before .pre .5))
+gather-requires c κs = let h = told (ran c) in (h .0, omega (arith, h .1, start (taken (kept (ran c))) .pre .room))
 
 same-length : tie.Need-same-length
 same-length c = search needs
@@ -93,21 +111,20 @@ same-length-4 c = search needs
 same-length-5 : tie.Need-same-length-5
 same-length-5 c = search needs
 
-same-length-6 : tie.Need-same-length-6
-same-length-6 c = search needs
-
 returns : tie.Need-returns
 returns c =
-    let done = c .before .before .before .before .before .before .before .before .before .before .before .before .before .before .before .before in
-    let s = c .before .before .before .before .before .before .before .before .before .before .before .before .before .before .before .before .before .before .before .before .before .before .before .before .before .before .before .before .before .before .before .before .before .before in
-    let r = c .before .before .before .before .before .before .before .before .before .before .before .before .before .before .before .before .before .before .before .before .before .before .before .before .before .before .command-of in
-    let k = c .before .before .before .before .before .before .before .before .before .before .before .before .before .before .before .before .before .before .before .before .before .before .before .keeps in
-    let g = c .before .before .gather in
+    let at-gather = c .before .before in
+    let done = ran (at-gather .before) in
+    let s = start (taken (kept done)) in
+    let r = taken (kept done) .command-of in
+    let k = kept done .keeps in
+    let g = at-gather .gather in
     let h = told done in
-    let w = gathered-within (k .result) (done .run-step .result) (s .args .before .kept) (rapduSize (dataCount (done .run-step .result .outcome))) (h .2) (s .pre .4) (h .3) (g .ensures .2) in (
-      stands (s .args .before) (s .args .waiting .now) (lent (s .args .table .now) (s .args .files .now) (s .args .journal .now)) (s .args .out .now) (omega arith) (s .args .definite) (s .args .domain) (s .args .capdu .now)
+    let n = rapduSize (dataCount (done .run-step .result .outcome)) in
+    let w = gathered-within (k .result) (done .run-step .result) (s .args .before .kept) n (h .1) (s .pre .kept) (h .2) (g .ensures .2) in (
+      stands (s .args .before) (lent (s .args .table .now) (s .args .files .now) (s .args .journal .now)) (s .args .out .now) (omega (arith, s .pre .kept, s .pre .room)) (s .args .definite) (s .args .domain) (s .args .capdu .now)
           (r .result) (r .ensures .0) (k .result) (k .ensures) _ (part-lent (s .args .capdu .now) (r .result .from) (r .result .count))
-          (done .run-step .result) (bytes done) (after done) (done .run-step .ensures) (rapduSize (dataCount (done .run-step .result .outcome))) (sym (g .ensures .1)) (omega (arith, h .2, s .pre .5)) (g .ensures .0) (g .ensures .2),
+          (done .run-step .result) (after done) (done .run-step .ensures) n (sym (g .ensures .1)) (omega (arith, h .1, s .pre .room)) (g .ensures .0) (g .ensures .2),
       w .0,
       w .1,
     )
@@ -129,5 +146,4 @@ step-capdu-spec =
     same-length-3
     same-length-4
     same-length-5
-    same-length-6
     returns)

@@ -1,8 +1,9 @@
--- `plan::act::carry_out` meets its contract: the writes, and what was made goes to the waiting bytes. Assumes nothing.
-use mathlib.Core.Path.{_≡_, refl, sym}
+-- `step::act::carry_out` meets its contract: the writes, and what was made goes to the waiting bytes. Assumes nothing.
+use mathlib.Core.Path.{_≡_, sym}
 use native.Mathlib.Omega.{arith}
 use lib.ListN.{length, take}
 use lib.Seq.{length-take-le}
+use Rattle.session.specs.Session.{sessionOf}
 use Rattle.step.specs.Steps.{carriedOut, movedTo}
 use Rattle.plan.specs.Promised.{planOf}
 use borrow.Author.Needs.{needs}
@@ -12,26 +13,33 @@ use Rattle.step.proofs.act.carry_out.Tie as tie
 cast-n : tie.Need-cast-n
 cast-n c = search needs
 
+-- where it starts, from where the decision is known
+abbrev start : tie.After-struct-known → tie.Start
+start c =
+    let at-slices = c .before .before .before .before in
+    at-slices .before .before .before .before
+
 perform-requires : tie.Need-perform-requires
 unfolding planOf
-perform-requires c κs = let p = c .before .before .before .before .before .before .before .before .before .before .before .pre in (p .0, p .1, p .3, p .4)
+perform-requires c κs = let p = start (c .before .before .before) .pre in (p .0, p .1, p .3, p .4)
 
 -- what was made is as long as the decision says
-module _ (c : tie.After-struct-known) where
-  abbrev start : tie.Start
-  start = c .before .before .before .before .before .before .before .before
+made-long : (c : tie.After-struct-known) → length (take (start c .args .d .made) (start c .args .made .now)) ≡ start c .args .d .made
+made-long c = length-take-le (start c .args .d .made) (start c .args .made .now) (omega (arith, cast-n c, start c .pre .1))
 
-  made-long : length (take (start .args .d .made) (start .args .made .now)) ≡ start .args .d .made
-  made-long = length-take-le (start .args .d .made) (start .args .made .now) (omega (arith, cast-n c, start .pre .1))
+-- where the decision is known, from where the change was performed and the arguments of the copy are ready
+abbrev known : tie.After-copy-arg2 → tie.After-struct-known
+known c =
+    let at-journal = c .before .before .before in
+    let at-table = at-journal .before .before .before .before in
+    let at-perform = at-table .before in
+    at-perform .before .before .before .before
 
 slice-aggregate-copy : tie.Need-slice-aggregate-copy
-slice-aggregate-copy c = sym (made-long (c .before .before .before .before .before .before .before .before .before .before .before .before))
+slice-aggregate-copy c = sym (made-long (known c))
 
 copy-requires : tie.Need-copy-requires
-copy-requires c κs = let k = c .before .before .before .before .before .before .before .before .before .before .before .before in rw (made-long k) (omega (arith, cast-n k, start k .pre .2))
-
-add-t24 : tie.Need-add-t24
-add-t24 c = search needs
+copy-requires c κs = let k = known c in rw (made-long k) (omega (arith, cast-n k, start k .pre .2))
 
 same-length : tie.Need-same-length
 same-length c = search needs
@@ -48,8 +56,11 @@ same-length-4 c = search needs
 returns : tie.Need-returns
 unfolding planOf carriedOut
 returns c =
-    let d = c .before .before .before .before .before .before .before .before .before .before .before .before .before .before .before .before .before .before .before .before .before .before .before .args .d in
-    (λ i. movedTo (d .session) (d .outcome) (c .before .before .copy .ensures i) (c .before .before .before .before .before .before .before .before .before .before .before .perform .ensures i), refl)
+    let at-copy = c .before .before in
+    let at-journal = at-copy .before .before .before .before in
+    let at-perform = at-journal .before .before .before .before .before in
+    let d = start (known (at-copy .before)) .args .d in
+    λ i. movedTo (sessionOf (d .session) (at-copy .copy .ensures i)) (d .outcome) (at-perform .perform .ensures i)
 
 pub carry-out-spec : {M : Type 1} → statement M
 carry-out-spec =
@@ -59,7 +70,6 @@ carry-out-spec =
     perform-requires
     slice-aggregate-copy
     copy-requires
-    add-t24
     same-length
     same-length-2
     same-length-3

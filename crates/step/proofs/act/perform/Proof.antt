@@ -1,4 +1,4 @@
--- `plan::act::perform` meets its contract: in each arm, what the change's fitting tells of it, and then its writes. Assumes nothing.
+-- `step::act::perform` meets its contract: in each arm, what the change's fitting tells of it, and then its writes. Assumes nothing.
 use mathlib.Core.Path.{_≡_, refl, sym}
 use Prim.Native.Nat.{_+_, _≤_}
 use native.Mathlib.Omega.{arith}

@@ -1,4 +1,4 @@
--- `plan::act::write_record` meets its contract: the record's write and then the newest place's, one after the other. Assumes nothing.
+-- `step::act::write_record` meets its contract: the record's write and then the newest place's, one after the other. Assumes nothing.
 use native.Mathlib.Omega.{arith}
 use borrow.Author.Needs.{needs}
 use lib.ListN.{length}
