@@ -66,10 +66,10 @@ pub fn perform(
     requires { ⌜ Fits (length (now table)) (length (now files)) (length (now «data»)) change × (length (now made) ≡ 255) × (length (now journal) < 65536) × HasRoom (now journal) (changes.cost (writesOf change (now «data») (now made))) ⌝ }
     ensures { λ _. ⌜ lent (now (table .exit)) (now (files .exit)) (now (journal .exit)) ≡ changes.perform (writesOf change (now («data» .entry)) (now (made .entry))) (lent (now (table .entry)) (now (files .entry)) (now (journal .entry))) ⌝ }
 {
-    let head = head_of(journal);
     match change {
         Change::Nothing => {}
         Change::Content(start, size, offset) => {
+            let head = head_of(journal);
             write(
                 files,
                 journal,
@@ -82,14 +82,17 @@ pub fn perform(
             );
         }
         Change::DataRecord(r) => {
+            let head = head_of(journal);
             write_record(table, files, journal, head, r, data);
         }
         Change::SumRecord(r) => {
             let n = r.record;
+            let head = head_of(journal);
             write_record(table, files, journal, head, r, &made[..n]);
         }
         Change::TableByte(place, new) => {
             let byte = [new as u8];
+            let head = head_of(journal);
             write(table, journal, head, Memory::Table, place, 1, 0, &byte);
         }
     }

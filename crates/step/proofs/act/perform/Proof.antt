@@ -7,7 +7,7 @@ use lib.ListN.{length, take}
 use lib.Seq.{length-take-le}
 use Rattle.card.specs.Row.{Card, lent}
 use Rattle.journal.specs.declared.Memory.the-variants.{Files}
-use Rattle.journal.specs.Entries.{headOf, HasRoom}
+use Rattle.journal.specs.Entries.{HasRoom}
 use Rattle.journal.specs.Changes as changes
 use Rattle.journal.proofs.Pushed.{own-used}
 use Rattle.plan.specs.Promised.{writesOf, Fits}
@@ -37,19 +37,12 @@ sum-long : (s : tie.Start) (r : NewRecord) → s .args .change ≡ SumRecord r �
 unfolding Fits
 sum-long s r same = length-take-le (r .«record») (s .args .made .now) (omega (arith, fits s same .1, s .pre .1))
 
--- the head is read in front of the arms
-module _ (k : tie.After-head-of) where
-  abbrev start : tie.Start
-  start = let lent = k .before .before in lent .before .before .before .before .before
+-- what the card's lent memories are known to be in front of the arms
+abbrev start : tie.After-slice-known3 → tie.Start
+start k = k .before .before .before .before .before
 
-  own : k .head-of .result ≡ headOf (start .args .journal .now)
-  own = k .head-of .ensures .0
-
-  short : length (start .args .journal .now) ≤ 65535
-  short = omega (arith, start .pre .2)
-
-head-of-requires : tie.Need-head-of-requires
-head-of-requires c κs = search needs
+short : (s : tie.Start) → length (s .args .journal .now) ≤ 65535
+short s = omega (arith, s .pre .2)
 
 enum-told : tie.Need-enum-told
 enum-told c = search needs
@@ -57,59 +50,79 @@ enum-told c = search needs
 enum-known-change : tie.Need-enum-known-change
 enum-known-change c = search needs
 
+head-of-requires : tie.Need-head-of-requires
+head-of-requires c κs = search needs
+
 write-requires : tie.Need-write-requires
 unfolding Fits changes.cost writesOf
 write-requires c κs =
-    let at-change = c .before .before .before in
-    let k = at-change .before .before in
-    let s = start k in
+    let at-head-of = c .before .before in
+    let at-change = at-head-of .before .before .before in
+    let s = start (at-change .before .before) in
     let same = at-change .change .given .1 in
+    let own = at-head-of .head-of .ensures .0 in
     record {
       inside = fits s same .0;
       within = fits s same .1;
-      head = own k;
-      short = short k;
-      left = omega (arith, left s same, own-used _ (own k));
+      head = own;
+      short = short s;
+      left = omega (arith, left s same, own-used _ own);
     }
 
 enum-known-change-2 : tie.Need-enum-known-change-2
 enum-known-change-2 c = search needs
 
+head-of-requires-2 : tie.Need-head-of-requires-2
+head-of-requires-2 c κs = search needs
+
 write-record-requires : tie.Need-write-record-requires
 unfolding Fits writesOf
 write-record-requires c κs =
-    let at-change = c .before .before .before .before in
-    let k = at-change .before .before in
-    let s = start k in
+    let at-head-of = c .before .before .before in
+    let at-change = at-head-of .before .before .before in
+    let s = start (at-change .before .before) in
     let same = at-change .change2 .given .1 in
-    record { fits = fits s same .0; whole = fits s same .1; head = own k; short = short k; left = left s same }
+    record { fits = fits s same .0; whole = fits s same .1; head = at-head-of .head-of2 .ensures .0; short = short s; left = left s same }
 
 enum-known-change-3 : tie.Need-enum-known-change-3
 enum-known-change-3 c = search needs
 
+head-of-requires-3 : tie.Need-head-of-requires-3
+head-of-requires-3 c κs = search needs
+
 slice-aggregate-write-record : tie.Need-slice-aggregate-write-record
 slice-aggregate-write-record c =
-    let at-change = c .before .before .before .before .before in
+    let at-head-of = c .before .before .before .before in
+    let at-change = at-head-of .before .before .before in
     let sum = at-change .change3 .given in
     sym (sum-long (start (at-change .before .before)) (sum .0 .0) (sum .1))
 
 write-record-requires-2 : tie.Need-write-record-requires-2
 unfolding Fits writesOf
 write-record-requires-2 c κs =
-    let at-change = c .before .before .before .before .before in
-    let k = at-change .before .before in
-    let s = start k in
+    let at-head-of = c .before .before .before .before in
+    let at-change = at-head-of .before .before .before in
+    let s = start (at-change .before .before) in
     let sum = at-change .change3 .given in
-    record { fits = fits s (sum .1) .0; whole = sum-long s (sum .0 .0) (sum .1); head = own k; short = short k; left = left s (sum .1) }
+    record {
+      fits = fits s (sum .1) .0;
+      whole = sum-long s (sum .0 .0) (sum .1);
+      head = at-head-of .head-of3 .ensures .0;
+      short = short s;
+      left = left s (sum .1);
+    }
 
 enum-known-change-4 : tie.Need-enum-known-change-4
 enum-known-change-4 c = search needs
 
-cast-t41 : tie.Need-cast-t41
+cast-t48 : tie.Need-cast-t48
 unfolding Fits
-cast-t41 c =
+cast-t48 c =
     let at-change = c .before in
     omega (arith, fits (start (at-change .before .before)) (at-change .change4 .given .1) .1)
+
+head-of-requires-4 : tie.Need-head-of-requires-4
+head-of-requires-4 c κs = search needs
 
 slice-aggregate-write : tie.Need-slice-aggregate-write
 slice-aggregate-write c = search needs
@@ -117,40 +130,42 @@ slice-aggregate-write c = search needs
 write-requires-2 : tie.Need-write-requires-2
 unfolding Fits changes.cost writesOf
 write-requires-2 c κs =
-    let at-change = c .before .before .before .before in
-    let k = at-change .before .before in
-    let s = start k in
+    let at-head-of = c .before .before .before in
+    let at-change = at-head-of .before .before .before in
+    let s = start (at-change .before .before) in
     let same = at-change .change4 .given .1 in
+    let own = at-head-of .head-of4 .ensures .0 in
     record {
       inside = omega (arith, fits s same .0);
       within = omega arith;
-      head = own k;
-      short = short k;
-      left = omega (arith, left s same, own-used _ (own k));
+      head = own;
+      short = short s;
+      left = omega (arith, left s same, own-used _ own);
     }
-
-same-length : tie.Need-same-length
-same-length c = search needs
 
 returns : tie.Need-returns
 unfolding changes.perform writesOf
 returns c = steps (start (c .before .before)) (c .enum-told .given .1) refl
 
+same-length : tie.Need-same-length
+same-length c = search needs
+
 same-length-2 : tie.Need-same-length-2
 same-length-2 c = search needs
-
-same-length-3 : tie.Need-same-length-3
-same-length-3 c = search needs
 
 returns-2 : tie.Need-returns-2
 unfolding changes.perform writesOf changes.withMemory changes.withJournal changes.memoryOf
 returns-2 c =
     let at-write = c .before .before .before .before in
-    let at-change = at-write .before .before .before .before in
+    let at-head-of = at-write .before .before .before in
+    let at-change = at-head-of .before .before .before in
     let s = start (at-change .before .before) in
     let content = at-change .change .given in
     let w = at-write .write .ensures in
     steps s (content .1) (one-write Files (whole s) (content .0 .0 + content .0 .1 .1 .0) (s .args .«data» .now) (w .0) (w .1))
+
+same-length-3 : tie.Need-same-length-3
+same-length-3 c = search needs
 
 same-length-4 : tie.Need-same-length-4
 same-length-4 c = search needs
@@ -158,15 +173,16 @@ same-length-4 c = search needs
 same-length-5 : tie.Need-same-length-5
 same-length-5 c = search needs
 
-same-length-6 : tie.Need-same-length-6
-same-length-6 c = search needs
-
 returns-3 : tie.Need-returns-3
 unfolding writesOf
 returns-3 c =
     let at-write = c .before .before .before .before .before .before in
-    let at-change = at-write .before .before .before .before .before in
+    let at-head-of = at-write .before .before .before .before in
+    let at-change = at-head-of .before .before .before in
     steps (start (at-change .before .before)) (at-change .change2 .given .1) (at-write .write-record .ensures)
+
+same-length-6 : tie.Need-same-length-6
+same-length-6 c = search needs
 
 same-length-7 : tie.Need-same-length-7
 same-length-7 c = search needs
@@ -174,27 +190,26 @@ same-length-7 c = search needs
 same-length-8 : tie.Need-same-length-8
 same-length-8 c = search needs
 
-same-length-9 : tie.Need-same-length-9
-same-length-9 c = search needs
-
 returns-4 : tie.Need-returns-4
 unfolding writesOf
 returns-4 c =
     let at-write = c .before .before .before .before .before .before in
-    let at-change = at-write .before .before .before .before .before .before in
+    let at-head-of = at-write .before .before .before .before .before in
+    let at-change = at-head-of .before .before .before in
     steps (start (at-change .before .before)) (at-change .change3 .given .1) (at-write .write-record2 .ensures)
+
+same-length-9 : tie.Need-same-length-9
+same-length-9 c = search needs
 
 same-length-10 : tie.Need-same-length-10
 same-length-10 c = search needs
-
-same-length-11 : tie.Need-same-length-11
-same-length-11 c = search needs
 
 returns-5 : tie.Need-returns-5
 unfolding changes.perform writesOf
 returns-5 c =
     let at-write = c .before .before .before .before in
-    let at-change = at-write .before .before .before .before .before in
+    let at-head-of = at-write .before .before .before .before in
+    let at-change = at-head-of .before .before .before in
     let s = start (at-change .before .before) in
     let byte = at-change .change4 .given in
     let w = at-write .write2 .ensures in
@@ -204,32 +219,34 @@ pub perform-spec : {M : Type 1} → statement M
 perform-spec =
     tie.close
     (tie.spec
-    head-of-requires
     enum-told
     enum-known-change
+    head-of-requires
     write-requires
     enum-known-change-2
+    head-of-requires-2
     write-record-requires
     enum-known-change-3
+    head-of-requires-3
     slice-aggregate-write-record
     write-record-requires-2
     enum-known-change-4
-    cast-t41
+    cast-t48
+    head-of-requires-4
     slice-aggregate-write
     write-requires-2
-    same-length
     returns
+    same-length
     same-length-2
-    same-length-3
     returns-2
+    same-length-3
     same-length-4
     same-length-5
-    same-length-6
     returns-3
+    same-length-6
     same-length-7
     same-length-8
-    same-length-9
     returns-4
+    same-length-9
     same-length-10
-    same-length-11
     returns-5)
