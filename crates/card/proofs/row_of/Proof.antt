@@ -66,33 +66,45 @@ wide-requires-8 c κs = search needs
 
 returns : tie.Need-returns
 unfolding row
-returns c = (
+returns c =
+    let at-num-at4 = c .before .before in
+    let at-wide7 = at-num-at4 .before in
+    let at-wide6 = at-wide7 .before .before in
+    let at-wide5 = at-wide6 .before .before in
+    let at-wide4 = at-wide5 .before .before in
+    let at-wide3 = at-wide4 .before .before in
+    let at-num-at3 = at-wide3 .before .before in
+    let at-num-at2 = at-num-at3 .before in
+    let at-wide2 = at-num-at2 .before in
+    let at-wide = at-wide2 .before .before in
+    let at-num-at = at-wide .before .before in
+    (
   λ i. record {
-    identifier = (c .before .before .before .before .before .before .before .before .before .before .before .before .before .before .before .before .before .before .before .num-at .ensures .0) i;
-    parent = (c .before .before .before .before .before .before .before .before .before .before .before .before .before .before .before .before .before .wide .ensures .0) i;
-    kind = (c .before .before .before .before .before .before .before .before .before .before .before .before .before .before .before .wide2 .ensures .0) i;
-    start = (c .before .before .before .before .before .before .before .before .before .before .before .before .before .before .num-at2 .ensures .0) i;
-    size = (c .before .before .before .before .before .before .before .before .before .before .before .before .before .num-at3 .ensures .0) i;
-    «record» = (c .before .before .before .before .before .before .before .before .before .before .before .wide3 .ensures .0) i;
-    newest = (c .before .before .before .before .before .before .before .before .before .wide4 .ensures .0) i;
-    state = (c .before .before .before .before .before .before .before .wide5 .ensures .0) i;
-    eleven = (c .before .before .before .before .before .wide6 .ensures .0) i;
-    never = (c .before .before .before .wide7 .ensures .0) i;
-    thirteen = (c .before .before .num-at4 .ensures .0) i;
+    identifier = (at-num-at .num-at .ensures .0) i;
+    parent = (at-wide .wide .ensures .0) i;
+    kind = (at-wide2 .wide2 .ensures .0) i;
+    start = (at-num-at2 .num-at2 .ensures .0) i;
+    size = (at-num-at3 .num-at3 .ensures .0) i;
+    «record» = (at-wide3 .wide3 .ensures .0) i;
+    newest = (at-wide4 .wide4 .ensures .0) i;
+    state = (at-wide5 .wide5 .ensures .0) i;
+    eleven = (at-wide6 .wide6 .ensures .0) i;
+    never = (at-wide7 .wide7 .ensures .0) i;
+    thirteen = (at-num-at4 .num-at4 .ensures .0) i;
     fifteen = (c .wide8 .ensures .0) i;
   },
   record {
-    identifier = c .before .before .before .before .before .before .before .before .before .before .before .before .before .before .before .before .before .before .before .num-at .ensures .1;
-    parent = c .before .before .before .before .before .before .before .before .before .before .before .before .before .before .before .before .before .wide .ensures .1;
-    kind = c .before .before .before .before .before .before .before .before .before .before .before .before .before .before .before .wide2 .ensures .1;
-    start = c .before .before .before .before .before .before .before .before .before .before .before .before .before .before .num-at2 .ensures .1;
-    size = c .before .before .before .before .before .before .before .before .before .before .before .before .before .num-at3 .ensures .1;
-    «record» = c .before .before .before .before .before .before .before .before .before .before .before .wide3 .ensures .1;
-    newest = c .before .before .before .before .before .before .before .before .before .wide4 .ensures .1;
-    state = c .before .before .before .before .before .before .before .wide5 .ensures .1;
-    eleven = c .before .before .before .before .before .wide6 .ensures .1;
-    never = c .before .before .before .wide7 .ensures .1;
-    thirteen = c .before .before .num-at4 .ensures .1;
+    identifier = at-num-at .num-at .ensures .1;
+    parent = at-wide .wide .ensures .1;
+    kind = at-wide2 .wide2 .ensures .1;
+    start = at-num-at2 .num-at2 .ensures .1;
+    size = at-num-at3 .num-at3 .ensures .1;
+    «record» = at-wide3 .wide3 .ensures .1;
+    newest = at-wide4 .wide4 .ensures .1;
+    state = at-wide5 .wide5 .ensures .1;
+    eleven = at-wide6 .wide6 .ensures .1;
+    never = at-wide7 .wide7 .ensures .1;
+    thirteen = at-num-at4 .num-at4 .ensures .1;
     fifteen = c .wide8 .ensures .1;
   },
 )

@@ -18,8 +18,12 @@ can-be-child-requires-2 c κs = search needs
 
 returns-2 : tie.Need-returns-2
 returns-2 c =
-    let a = c .before .before .before .before .before .before .before .args in
-    rw (c .before .before .before .can-be-child .ensures, c .before .before .can-be-child2 .ensures, eq-eqb (a .a .identifier) (a .b .identifier) (c .before .before .before .before .if1 .left), and-true)
+    let at-can-be-child2 = c .before .before in
+    let at-can-be-child = at-can-be-child2 .before in
+    let at-else1 = at-can-be-child .before in
+    let at-start = at-else1 .before .before .before in
+    let a = at-start .args in
+    rw (at-can-be-child .can-be-child .ensures, at-can-be-child2 .can-be-child2 .ensures, eq-eqb (a .a .identifier) (a .b .identifier) (at-else1 .if1 .left), and-true)
 
 pub named-apart-spec : {M : Type 1} → statement M
 named-apart-spec =

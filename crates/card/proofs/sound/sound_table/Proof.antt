@@ -35,10 +35,16 @@ returns-3 : tie.Need-returns-3
 returns-3 c = unsound (c .before .before .before .before .before .before) (λ s. let h = few-entries _ _ s in omega arith)
 
 returns-4 : tie.Need-returns-4
-returns-4 c = unsound (c .before .before .before .before .before .before .before) (λ s. let h = some-bytes _ _ s in omega arith)
+returns-4 c =
+    let at-shared-slice-known = c .before .before .before .before .before .before in
+    let at-start = at-shared-slice-known .before in
+    unsound (at-start) (λ s. let h = some-bytes _ _ s in omega arith)
 
 returns-5 : tie.Need-returns-5
-returns-5 c = unsound (c .before .before .before .before .before .before .before .before) (λ s. let h = few-bytes _ _ s in omega arith)
+returns-5 c =
+    let at-shared-slice-known2 = c .before .before .before .before .before .before in
+    let at-start = at-shared-slice-known2 .before .before in
+    unsound (at-start) (λ s. let h = few-bytes _ _ s in omega arith)
 
 entries-sound-requires : tie.Need-entries-sound-requires
 entries-sound-requires c κs = search needs

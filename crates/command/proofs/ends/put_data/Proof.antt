@@ -35,17 +35,25 @@ enum-known-o c = search needs
 
 from-files-requires : tie.Need-from-files-requires
 unfolding OutcomeFits
-from-files-requires c κs = fits (c .before .before .before .before .before .before .before) (c .before .before .o .given .1) .0
+from-files-requires c κs =
+    let at-o = c .before .before in
+    let at-start = at-o .before .before .before .before .before in
+    fits (at-start) (at-o .o .given .1) .0
 
 copy-requires : tie.Need-copy-requires
 unfolding OutcomeFits
 copy-requires c κs =
-    let s = c .before .before .before .before .before .before .before .before in
-    let k = c .before .before .before .o .given in
+    let at-o = c .before .before .before in
+    let at-start = at-o .before .before .before .before .before in
+    let s = at-start in
+    let k = at-o .o .given in
     rw (c .from-files .ensures, part-length (s .args .files .now) (k .0 .1 .0) (k .0 .1 .1 .0) (fits s (k .1) .0)) (left s (k .1))
 
 add-result : tie.Need-add-result
-add-result c = omega (arith, left (c .before .before .before .before .before .before .before .before .before .before .before) (c .before .before .before .before .before .before .o .given .1))
+add-result c =
+    let at-o = c .before .before .before .before .before .before in
+    let at-start = at-o .before .before .before .before .before in
+    omega (arith, left (at-start) (at-o .o .given .1))
 
 enum-known-o-2 : tie.Need-enum-known-o-2
 enum-known-o-2 c = search needs
@@ -53,18 +61,25 @@ enum-known-o-2 c = search needs
 from-waiting-requires : tie.Need-from-waiting-requires
 unfolding OutcomeFits
 from-waiting-requires c κs =
-    let s = c .before .before .before .before .before .before .before in
-    omega (arith, fits s (c .before .before .o2 .given .1), s .pre .1)
+    let at-o2 = c .before .before in
+    let at-start = at-o2 .before .before .before .before .before in
+    let s = at-start in
+    omega (arith, fits s (at-o2 .o2 .given .1), s .pre .1)
 
 copy-requires-2 : tie.Need-copy-requires-2
 unfolding OutcomeFits
 copy-requires-2 c κs =
-    let s = c .before .before .before .before .before .before .before .before in
-    let k = c .before .before .before .o2 .given in
+    let at-o2 = c .before .before .before in
+    let at-start = at-o2 .before .before .before .before .before in
+    let s = at-start in
+    let k = at-o2 .o2 .given in
     rw (c .from-waiting .ensures, length-take-le (k .0 .1 .0) (s .args .waiting .now) (omega (arith, fits s (k .1), s .pre .1))) (left s (k .1))
 
 add-result-2 : tie.Need-add-result-2
-add-result-2 c = omega (arith, left (c .before .before .before .before .before .before .before .before .before .before .before) (c .before .before .before .before .before .before .o2 .given .1))
+add-result-2 c =
+    let at-o2 = c .before .before .before .before .before .before in
+    let at-start = at-o2 .before .before .before .before .before in
+    omega (arith, left (at-start) (at-o2 .o2 .given .1))
 
 enum-told-2 : tie.Need-enum-told-2
 enum-told-2 c = search needs
@@ -82,8 +97,12 @@ same-length c = search needs
 returns-2 : tie.Need-returns-2
 unfolding dataOf
 returns-2 c =
-    let s = c .before .before .before .before .before .before .before .before .before .before .before in
-    written s (c .before .before .before .before .before .before .o .given .1) (c .before .before .copy .ensures ∙ ap (overwrite (s .args .out .now) (s .args .at)) (c .before .before .before .from-files .ensures))
+    let at-copy = c .before .before in
+    let at-from-files = at-copy .before in
+    let at-o = at-from-files .before .before .before in
+    let at-start = at-o .before .before .before .before .before in
+    let s = at-start in
+    written s (at-o .o .given .1) (at-copy .copy .ensures ∙ ap (overwrite (s .args .out .now) (s .args .at)) (at-from-files .from-files .ensures))
 
 same-length-2 : tie.Need-same-length-2
 same-length-2 c = search needs
@@ -91,8 +110,12 @@ same-length-2 c = search needs
 returns-3 : tie.Need-returns-3
 unfolding dataOf
 returns-3 c =
-    let s = c .before .before .before .before .before .before .before .before .before .before .before in
-    written s (c .before .before .before .before .before .before .o2 .given .1) (c .before .before .copy2 .ensures ∙ ap (overwrite (s .args .out .now) (s .args .at)) (c .before .before .before .from-waiting .ensures))
+    let at-copy2 = c .before .before in
+    let at-from-waiting = at-copy2 .before in
+    let at-o2 = at-from-waiting .before .before .before in
+    let at-start = at-o2 .before .before .before .before .before in
+    let s = at-start in
+    written s (at-o2 .o2 .given .1) (at-copy2 .copy2 .ensures ∙ ap (overwrite (s .args .out .now) (s .args .at)) (at-from-waiting .from-waiting .ensures))
 
 returns-4 : tie.Need-returns-4
 unfolding dataOf

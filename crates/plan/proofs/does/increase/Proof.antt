@@ -62,11 +62,13 @@ module _ (c : tie.After-record-offset) where
 
 returns : tie.Need-returns
 returns c =
-    let k = c .before .before .before .before .before .before .before .before in
+    let at-add = c .before .before .before .before in
+    let at-record-offset = at-add .before .before .before .before in
+    let k = at-record-offset in
     let a = start k .args in (
       λ f row entry content.
           c .failed .ensures .0 (a .«data» .now) _
-          ∙ sum-fails (raised k f row entry content) (a .«data» .now) (c .before .before .before .before .add .ensures .0) (c .before .if1 .taken) (plans.increase (a .format) (a .«data» .now) (a .s) f),
+          ∙ sum-fails (raised k f row entry content) (a .«data» .now) (at-add .add .ensures .0) (c .before .if1 .taken) (plans.increase (a .format) (a .«data» .now) (a .s) f),
       λ t h. none-fits _ _ _ (c .failed .ensures .1),
     )
 
@@ -86,7 +88,11 @@ new-record-requires : tie.Need-new-record-requires
 new-record-requires c κs = search needs
 
 produced-requires : tie.Need-produced-requires
-produced-requires c κs = let p = c .before .before .before .before .before .before .before .before .before .before .before .before .before .before .before .before .before .before .pre in (omega (arith, p .1, p .2), omega arith)
+produced-requires c κs =
+    let at-copy-arg = c .before .before .before .before .before .before in
+    let at-add-arg = at-copy-arg .before .before .before .before .before .before in
+    let at-start = at-add-arg .before .before .before .before .before .before in
+    let p = at-start .pre in (omega (arith, p .1, p .2), omega arith)
 
 same-length-2 : tie.Need-same-length-2
 same-length-2 c = search needs
@@ -94,18 +100,24 @@ same-length-2 c = search needs
 returns-2 : tie.Need-returns-2
 unfolding plans.increase Fits newestOf
 returns-2 c =
-    let k = c .before .before .before .before .before .before .before .before .before .before .before .before .before .before .before in
+    let at-target = c .before .before in
+    let at-at-record = at-target .before in
+    let at-copy = at-at-record .before .before .before in
+    let at-else1 = at-copy .before .before in
+    let at-add = at-else1 .before .before .before in
+    let at-record-offset = at-add .before .before .before .before in
+    let k = at-record-offset in
     let a = start k .args in
     let p = start k .pre in
-    let record-made : c .before .new-record .result ≡ newestOf (a .s .file) (a .r) = c .before .new-record .ensures ∙ ap (λ e. newestOf e (a .r)) (c .before .before .target .ensures) in
-    let sum-made = c .before .before .before .before .before .before .before .before .before .before .before .add .ensures in (
+    let record-made : c .before .new-record .result ≡ newestOf (a .s .file) (a .r) = c .before .new-record .ensures ∙ ap (λ e. newestOf e (a .r)) (at-target .target .ensures) in
+    let sum-made = at-add .add .ensures in (
       λ f row entry content.
           let h = raised k f row entry content in
           let out = bytesOf (f .row .«record») (sum (f .row) (f .content) (a .«data» .now)) ++ a .«data» .now in
-          let e = new-bytes h (a .«data» .now) (a .made .now) (p .3) (omega (arith, p .1, p .2)) (sum-made .1) (c .before .before .before .before .before .before .copy .ensures) in
-          sum-done h (a .«data» .now) (sum-made .0) (c .before .before .before .before .before .before .before .before .if1 .left)
+          let e = new-bytes h (a .«data» .now) (a .made .now) (p .3) (omega (arith, p .1, p .2)) (sum-made .1) (at-copy .copy .ensures) in
+          sum-done h (a .«data» .now) (sum-made .0) (at-else1 .if1 .left)
           (c .produced .ensures .0 (a .«data» .now) _ out (a .made .now) e (new-count h (a .«data» .now))
-          ∙ (λ i. produced (a .format) (c .before .before .before .at-record .ensures i) normal out (writesOf (SumRecord (record-made i)) (a .«data» .now) (e i)))
+          ∙ (λ i. produced (a .format) (at-at-record .at-record .ensures i) normal out (writesOf (SumRecord (record-made i)) (a .«data» .now) (e i)))
           ∙ (λ i. produced (a .format) (atRecord (a .s) 1) normal out (new-writes h (a .«data» .now) (a .made .now) i))),
       λ t h. rw (c .produced .ensures .1, record-made) (newest-fits t (length (a .files .now)) (a .s .file) (a .r) (p .0) h, omega (arith, p .1)),
     )

@@ -80,13 +80,16 @@ same-length-2 c = search needs
 returns-2 : tie.Need-returns-2
 unfolding writesOf
 returns-2 c =
-    let k = c .before .before .before .before .before .before .before in
+    let at-wide = c .before .before in
+    let at-else1 = at-wide .before .before in
+    let at-search = at-else1 .before .before .before in
+    let k = at-search in
     let a = start k .args in
     let s = k .search .ensures in (
       λ f row content.
           c .produced .ensures .0 (a .«data» .now) _ (found k) (a .made .now) (s .0) (s .1)
           ∙ (λ i. produced (a .format) (c .before .at-record .ensures i) normal (found k) [])
-          ∙ searched-some (a .format) (a .s) (a .made .now) (found k) _ (λ z. c .before .before .before .before .if1 .left (s .1 ∙ z)) (c .before .before .wide .ensures .0 ∙ ap (λ (l : List ℕ). byte l 0) (s .0))
+          ∙ searched-some (a .format) (a .s) (a .made .now) (found k) _ (λ z. at-else1 .if1 .left (s .1 ∙ z)) (at-wide .wide .ensures .0 ∙ ap (λ (l : List ℕ). byte l 0) (s .0))
           ∙ as-named k f row content,
       c .produced .ensures .1,
     )

@@ -35,7 +35,11 @@ unfolding selectWord
 word-small r = on-pick (λ (w : ℕ). w < 65536) (isDeactivated r) _ _ (λ e. omega arith) (λ e. omega arith)
 
 produced-requires : tie.Need-produced-requires
-produced-requires c κs = (omega (arith, c .before .before .put-fcp .ensures .2), rw (c .before .before .before .before .before .select-word .ensures) (word-small (c .before .before .before .before .before .before .before .before .args .r)))
+produced-requires c κs =
+    let at-put-fcp = c .before .before in
+    let at-select-word = at-put-fcp .before .before .before in
+    let at-start = at-select-word .before .before .before in
+    (omega (arith, at-put-fcp .put-fcp .ensures .2), rw (at-select-word .select-word .ensures) (word-small (at-start .args .r)))
 
 same-length : tie.Need-same-length
 same-length c = search needs
@@ -43,8 +47,13 @@ same-length c = search needs
 returns-2 : tie.Need-returns-2
 unfolding selectEntry writesOf
 returns-2 c =
-    let s = c .before .before .before .before .before .before .before .before .before .args in
-    (λ «data». eq-no _ _ _ (c .before .before .before .before .before .if1 .left) (c .produced .ensures .0 «data» _ (fcp (s .r)) (s .made .now) (c .before .before .before .put-fcp .ensures .0) (c .before .before .before .put-fcp .ensures .1) ∙ (λ i. produced (s .format) (c .before .before .before .before .before .before .before .selected .ensures i) (c .before .before .before .before .before .before .select-word .ensures i) (fcp (s .r)) [])), c .produced .ensures .1)
+    let at-put-fcp = c .before .before .before in
+    let at-else1 = at-put-fcp .before .before in
+    let at-select-word = at-else1 .before in
+    let at-selected = at-select-word .before in
+    let at-start = at-selected .before .before in
+    let s = at-start .args in
+    (λ «data». eq-no _ _ _ (at-else1 .if1 .left) (c .produced .ensures .0 «data» _ (fcp (s .r)) (s .made .now) (at-put-fcp .put-fcp .ensures .0) (at-put-fcp .put-fcp .ensures .1) ∙ (λ i. produced (s .format) (at-selected .selected .ensures i) (at-select-word .select-word .ensures i) (fcp (s .r)) [])), c .produced .ensures .1)
 
 pub select-entry-spec : {M : Type 1} → statement M
 select-entry-spec =

@@ -33,8 +33,10 @@ within-requires c κs = search needs
 returns : tie.Need-returns
 unfolding recordBytes
 returns c =
-    let s = c .before .before .before .before .before .before .before .args in
-    let o = c .before .before .before .before .record-offset in
+    let at-record-offset = c .before .before .before .before in
+    let at-start = at-record-offset .before .before .before in
+    let s = at-start .args in
+    let o = at-record-offset .record-offset in
     rw (← (o .ensures .0)) (c .within .ensures ∙ ap (λ (l : List ℕ). contains l (s .«data» .now)) (lent-part (s .files .now) (s .r .start) (s .r .size) (o .result) (s .r .«record») (o .ensures .1)))
 
 pub record-contains-spec : {M : Type 1} → statement M

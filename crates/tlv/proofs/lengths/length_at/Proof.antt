@@ -58,7 +58,11 @@ long-length-requires c κs = search needs
 
 returns-4 : tie.Need-returns-4
 unfolding lengthAt
-returns-4 c = told (c .before .before .before .before .before .before .before) (rw (← (c .before .before .before .before .wide .ensures .0)) (search (picks, here (c .before .before .before .before .before .before))))
+returns-4 c =
+    let at-wide = c .before .before .before .before in
+    let at-else1 = at-wide .before .before in
+    let at-shared-slice-known = at-else1 .before in
+    told (at-shared-slice-known) (rw (← (at-wide .wide .ensures .0)) (search (picks, here (at-else1))))
 
 returns-5 : tie.Need-returns-5
 unfolding lengthAt

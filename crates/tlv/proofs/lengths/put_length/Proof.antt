@@ -40,8 +40,12 @@ same-length-2 c = search needs
 
 returns-2 : tie.Need-returns-2
 returns-2 c =
-    let s = c .before .before .before .before .before .before .before .before in
-    named (s .args .out .now) (s .args .at) 2 (length-two (s .args .n) (c .before .before .before .before .before .before .if1 .left) (c .before .before .before .before .before .if2 .taken)) refl (c .before .before .copy .ensures)
+    let at-copy = c .before .before in
+    let at-then2 = at-copy .before .before .before in
+    let at-else1 = at-then2 .before in
+    let at-start = at-else1 .before .before in
+    let s = at-start in
+    named (s .args .out .now) (s .args .at) 2 (length-two (s .args .n) (at-else1 .if1 .left) (at-then2 .if2 .taken)) refl (at-copy .copy .ensures)
 
 cast-t22 : tie.Need-cast-t22
 cast-t22 c = search needs
@@ -64,8 +68,12 @@ same-length-3 c = search needs
 returns-3 : tie.Need-returns-3
 unfolding bytes2
 returns-3 c =
-    let s = c .before .before .before .before .before .before .before .before in
-    named (s .args .out .now) (s .args .at) 3 (length-three (s .args .n) (c .before .before .before .before .before .before .if1 .left) (c .before .before .before .before .before .if2 .left)) refl (c .before .before .copy2 .ensures)
+    let at-copy2 = c .before .before in
+    let at-else2 = at-copy2 .before .before .before in
+    let at-else1 = at-else2 .before in
+    let at-start = at-else1 .before .before in
+    let s = at-start in
+    named (s .args .out .now) (s .args .at) 3 (length-three (s .args .n) (at-else1 .if1 .left) (at-else2 .if2 .left)) refl (at-copy2 .copy2 .ensures)
 
 pub put-length-spec : {M : Type 1} → statement M
 put-length-spec =
