@@ -28,7 +28,7 @@ withBytes r newest state =
       kind = r .kind;
       start = r .start;
       size = r .size;
-      «record» = r .«record»;
+      «record_length» = r .«record_length»;
       newest = newest;
       state = state;
       eleven = r .eleven;
@@ -142,7 +142,7 @@ module _ (t : List ℕ) (e k v : ℕ) (here : e < entries t) (low : 9 ≤ k) (hi
         kind = same 3 (omega arith) (omega arith) i;
         start = num 4 (omega arith) (omega arith) (omega arith) i;
         size = num 6 (omega arith) (omega arith) (omega arith) i;
-        «record» = same 8 (omega arith) (omega arith) i;
+        «record_length» = same 8 (omega arith) (omega arith) i;
         newest = byte (entry (changed t e k v) e) 9;
         state = byte (entry (changed t e k v) e) 10;
         eleven = same 11 (omega arith) (omega arith) i;

@@ -74,15 +74,15 @@ pub places-apart : (size p q : ℕ) → (p ≡ q → ⊥) → (size * p + size �
 places-apart size p q z = elim (decLt p q) [ yes l ↦ inl (ends-before size p q l) | no n ↦ inr (ends-before size q p (omega arith)) ]
 
 -- a place among the records lies inside the file, and so does every record
-pub place-inside : (f : Row) (p : ℕ) → p < recordCount f → f .«record» * p + f .«record» ≤ f .size
-place-inside f p l = ends-inside (f .«record») p (recordCount f) (f .size) l (div-mul-le-self (f .size) (f .«record»))
+pub place-inside : (f : Row) (p : ℕ) → p < recordCount f → f .«record_length» * p + f .«record_length» ≤ f .size
+place-inside f p l = ends-inside (f .«record_length») p (recordCount f) (f .size) l (div-mul-le-self (f .size) (f .«record_length»))
 
-pub offset-inside : (f : Row) → 1 ≤ recordCount f → (r : ℕ) → recordOffset f r + f .«record» ≤ f .size
+pub offset-inside : (f : Row) → 1 ≤ recordCount f → (r : ℕ) → recordOffset f r + f .«record_length» ≤ f .size
 unfolding recordOffset recordPlace
 offset-inside f h r = place-inside f _ (place-below (recordCount f) (f .newest) r h)
 
 -- records of different numbers do not overlap
-pub records-apart : (f : Row) (r s : ℕ) → f .newest < recordCount f → 1 ≤ r → r ≤ recordCount f → 1 ≤ s → s ≤ recordCount f → (r ≡ s → ⊥) → (recordOffset f r + f .«record» ≤ recordOffset f s) ⊎ (recordOffset f s + f .«record» ≤ recordOffset f r)
+pub records-apart : (f : Row) (r s : ℕ) → f .newest < recordCount f → 1 ≤ r → r ≤ recordCount f → 1 ≤ s → s ≤ recordCount f → (r ≡ s → ⊥) → (recordOffset f r + f .«record_length» ≤ recordOffset f s) ⊎ (recordOffset f s + f .«record_length» ≤ recordOffset f r)
 unfolding recordOffset recordPlace
 records-apart f r s k h g i j z =
-    places-apart (f .«record») _ _ (λ e. z (one-number (recordCount f) (f .newest) k r s h g i j e))
+    places-apart (f .«record_length») _ _ (λ e. z (one-number (recordCount f) (f .newest) k r s h g i j e))

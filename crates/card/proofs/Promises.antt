@@ -92,8 +92,8 @@ module _ (files : ℕ) (r : Row) (own : ownSound files r ≡ true) (dir : isDire
   pub directory-size : r .size ≡ 0
   directory-size = equal directory (r .size) 0 (λ n. simp (n, and-false))
 
-  pub directory-record : r .«record» ≡ 0
-  directory-record = equal directory (r .«record») 0 (λ n. simp (n, and-false))
+  pub directory-record : r .«record_length» ≡ 0
+  directory-record = equal directory (r .«record_length») 0 (λ n. simp (n, and-false))
 
   pub directory-newest : r .newest ≡ 0
   directory-newest = equal directory (r .newest) 0 (λ n. simp (n, and-false))
@@ -135,32 +135,32 @@ module _ (files : ℕ) (r : Row) (own : ownSound files r ≡ true) (file : isFil
 
   pub newest-zero : isCyclic r ≡ false → r .newest ≡ 0
   unfolding newestSound
-  newest-zero other = eqb-true (r .newest) 0 (rw (pick-false (isCyclic r) (leb 1 (r .«record») && ltb (r .newest) (recordCount r)) (eqb (r .newest) 0) other) at file-newest)
+  newest-zero other = eqb-true (r .newest) 0 (rw (pick-false (isCyclic r) (leb 1 (r .«record_length») && ltb (r .newest) (recordCount r)) (eqb (r .newest) 0) other) at file-newest)
 
   pub file-records : recordsSound r ≡ true
   unfolding fileSound
   file-records = shown file-rules (recordsSound r) (λ n. simp (n, and-false))
 
-  pub transparent-record : isTransparent r ≡ true → r .«record» ≡ 0
+  pub transparent-record : isTransparent r ≡ true → r .«record_length» ≡ 0
   unfolding recordsSound pick
-  transparent-record h = equal file-records (r .«record») 0 (λ n. simp (h, n))
+  transparent-record h = equal file-records (r .«record_length») 0 (λ n. simp (h, n))
 
   pub transparent-newest : isTransparent r ≡ true → r .newest ≡ 0
   transparent-newest h = newest-zero (rw (eqb-true (r .kind) 4 h))
 
 -- a row by itself: a file of records
 module _ (files : ℕ) (r : Row) (own : ownSound files r ≡ true) (has : hasRecords r ≡ true) where
-  record-rules : (leb 1 (r .«record») && (leb (r .«record») 255 && (eqb (r .size % r .«record») 0 && (leb 1 (recordCount r) && leb (recordCount r) 254)))) ≡ true
+  record-rules : (leb 1 (r .«record_length») && (leb (r .«record_length») 255 && (eqb (r .size % r .«record_length») 0 && (leb 1 (recordCount r) && leb (recordCount r) 254)))) ≡ true
   unfolding recordsSound pick
   record-rules =
       let e : eqb (r .kind) 4 ≡ false = ⊎-elim (λ k. rw k) (λ k. rw k) (records-kind r has) in
       rw e at (file-records files r own (records-file r has))
 
-  pub record-some : 1 ≤ r .«record»
-  record-some = at-most record-rules 1 (r .«record») (λ n. simp n)
+  pub record-some : 1 ≤ r .«record_length»
+  record-some = at-most record-rules 1 (r .«record_length») (λ n. simp n)
 
-  pub record-short : r .«record» ≤ 255
-  record-short = at-most record-rules (r .«record») 255 (λ n. simp (n, and-false))
+  pub record-short : r .«record_length» ≤ 255
+  record-short = at-most record-rules (r .«record_length») 255 (λ n. simp (n, and-false))
 
   pub records-some : 1 ≤ recordCount r
   records-some = at-most record-rules 1 (recordCount r) (λ n. simp (n, and-false))
@@ -168,10 +168,10 @@ module _ (files : ℕ) (r : Row) (own : ownSound files r ≡ true) (has : hasRec
   pub records-few : recordCount r ≤ 254
   records-few = at-most record-rules (recordCount r) 254 (λ n. simp (n, and-false))
 
-  pub records-whole : r .size ≡ r .«record» * recordCount r
+  pub records-whole : r .size ≡ r .«record_length» * recordCount r
   records-whole =
-      let h = equal record-rules (r .size % r .«record») 0 (λ n. simp (n, and-false)) in
-      sym (mod-add-div (r .size) (r .«record»)) ∙ rw (h, zero-add)
+      let h = equal record-rules (r .size % r .«record_length») 0 (λ n. simp (n, and-false)) in
+      sym (mod-add-div (r .size) (r .«record_length»)) ∙ rw (h, zero-add)
 
   pub newest-below : r .newest < recordCount r
   unfolding newestSound pick

@@ -13,7 +13,7 @@ recordPlace f r = cyclicPlace (recordCount f) (f .newest) r
 
 -- where record r begins in its file
 unfoldable pub recordOffset : Row → ℕ → ℕ
-recordOffset f r = f .«record» * recordPlace f r
+recordOffset f r = f .«record_length» * recordPlace f r
 
 -- the place of the oldest record, which is the last by number
 unfoldable pub oldestPlace : Row → ℕ

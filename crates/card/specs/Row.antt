@@ -38,7 +38,7 @@ row bs =
       kind = byte bs 3;
       start = numAt bs 4;
       size = numAt bs 6;
-      «record» = byte bs 8;
+      «record_length» = byte bs 8;
       newest = byte bs 9;
       state = byte bs 10;
       eleven = byte bs 11;
@@ -58,7 +58,7 @@ pub record Narrow (r : Row) : Type 0 where
   pub kind : r .kind < 256
   pub start : r .start < 65536
   pub size : r .size < 65536
-  pub «record» : r .«record» < 256
+  pub «record_length» : r .«record_length» < 256
   pub newest : r .newest < 256
   pub state : r .state < 256
   pub eleven : r .eleven < 256

@@ -25,7 +25,7 @@ mostRecords = 254
 
 -- how many whole records a file has
 abbrev pub recordCount : Row → ℕ
-recordCount r = r .size / r .«record»
+recordCount r = r .size / r .«record_length»
 
 -- "entry 0 is kind 1, 3F00, parent 0"
 abbrev pub rootSound : Row → Bool
@@ -47,14 +47,14 @@ abbrev pub directorySound : Row → Bool
 directorySound r =
     eqb (r .start) 0
     && (eqb (r .size) 0
-    && (eqb (r .«record») 0
+    && (eqb (r .«record_length») 0
     && (eqb (r .newest) 0
     && (eqb (r .never) 0
     && eqb (r .state) activated))))
 
 -- "byte 9 is 0 unless cyclic, then below the record count"; the value of an entry's byte 9
 unfoldable pub newestSound : Row → ℕ → Bool
-newestSound r place = pick (isCyclic r) (leb 1 (r .«record») && ltb place (recordCount r)) (eqb place 0)
+newestSound r place = pick (isCyclic r) (leb 1 (r .«record_length») && ltb place (recordCount r)) (eqb place 0)
 
 -- "05 activated, 04 deactivated"; the value of a file's byte 10
 abbrev pub stateSound : ℕ → Bool
@@ -64,10 +64,10 @@ stateSound state = eqb state deactivated || eqb state activated
 unfoldable pub recordsSound : Row → Bool
 recordsSound r =
     pick (isTransparent r)
-    (eqb (r .«record») 0)
-    (leb 1 (r .«record»)
-    && (leb (r .«record») longestRecord
-    && (eqb (r .size % r .«record») 0
+    (eqb (r .«record_length») 0)
+    (leb 1 (r .«record_length»)
+    && (leb (r .«record_length») longestRecord
+    && (eqb (r .size % r .«record_length») 0
     && (leb 1 (recordCount r) && leb (recordCount r) mostRecords))))
 
 -- "A file has length 1 or more, lies inside file memory"; "NEVER bits: 1 .. 2 .. 4 .. 8 .. 16 ..; no others"

@@ -16,26 +16,26 @@ pub fn cyclic_place(m: usize, k: usize, r: usize) -> usize
 
 // How many records a file has.
 pub fn record_count(f: Row) -> usize
-    requires { ⌜ 1 ≤ f .«record» ⌝ }
-    ensures { λ n. ⌜ (n ≡ recordCount f) × (n * f .«record» ≤ f .size) ⌝ }
+    requires { ⌜ 1 ≤ f .«record_length» ⌝ }
+    ensures { λ n. ⌜ (n ≡ recordCount f) × (n * f .«record_length» ≤ f .size) ⌝ }
 {
-    let record = f.record;
+    let record = f.record_length;
     f.size / record
 }
 
 // Where record r begins in its file.
 pub fn record_offset(f: Row, r: usize) -> usize
-    requires { ⌜ (1 ≤ f .«record») × (1 ≤ r) × (r ≤ recordCount f) × Narrow f ⌝ }
-    ensures { λ p. ⌜ (p ≡ recordOffset f r) × (p + f .«record» ≤ f .size) ⌝ }
+    requires { ⌜ (1 ≤ f .«record_length») × (1 ≤ r) × (r ≤ recordCount f) × Narrow f ⌝ }
+    ensures { λ p. ⌜ (p ≡ recordOffset f r) × (p + f .«record_length» ≤ f .size) ⌝ }
 {
-    let record = f.record;
+    let record = f.record_length;
     let m = record_count(f);
     record * cyclic_place(m, f.newest, r)
 }
 
 // The place of the oldest record.
 pub fn oldest_place(f: Row) -> usize
-    requires { ⌜ (1 ≤ f .«record») × (1 ≤ recordCount f) × Narrow f ⌝ }
+    requires { ⌜ (1 ≤ f .«record_length») × (1 ≤ recordCount f) × Narrow f ⌝ }
     ensures { λ p. ⌜ (p ≡ oldestPlace f) × (p < recordCount f) ⌝ }
 {
     let m = record_count(f);

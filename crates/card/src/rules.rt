@@ -65,14 +65,15 @@ fn directory_sound(r: Row) -> bool
 {
     (r.start == 0)
         & ((r.size == 0)
-            & ((r.record == 0) & ((r.newest == 0) & ((r.never == 0) & (r.state == ACTIVATED)))))
+            & ((r.record_length == 0)
+                & ((r.newest == 0) & ((r.never == 0) & (r.state == ACTIVATED)))))
 }
 
 // A value of byte 9.
 pub fn newest_sound(r: Row, place: usize) -> bool
     ensures { λ b. ⌜ b ≡ newestSound r place ⌝ }
 {
-    let record = r.record;
+    let record = r.record_length;
     if r.kind == CYCLIC {
         if record == 0 {
             return false;
@@ -93,7 +94,7 @@ pub fn state_sound(state: usize) -> bool
 fn records_sound(r: Row) -> bool
     ensures { λ b. ⌜ b ≡ recordsSound r ⌝ }
 {
-    let record = r.record;
+    let record = r.record_length;
     if r.kind == TRANSPARENT {
         return record == 0;
     }

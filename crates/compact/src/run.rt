@@ -12,7 +12,7 @@ ghost use lib.ListN.{length};
 ghost use Rattle.card.specs.Row.{lent};
 ghost use Rattle.journal.specs.Sound.{Starts};
 ghost use Rattle.step.specs.Steps.{stateOf};
-ghost use Rattle.step.specs.Promised.{MayRun};
+ghost use Rattle.step.specs.Promised.{RunCommandAsks};
 ghost use Rattle.compact.specs.Compact as spec;
 
 // A script's step after a command that was read.
@@ -26,7 +26,7 @@ fn step_read(
     files: &mut [u8],
     journal: &mut [u8],
 ) -> Step
-    requires { ⌜ (spec.placeAfter reading ≤ length (now script)) × MayRun (lent (now table) (now files) (now journal)) (before .session .standing) (reading .command) (reading .count) 0 (now made) × (before .count < 65535) ⌝ }
+    requires { ⌜ (spec.placeAfter reading ≤ length (now script)) × RunCommandAsks (lent (now table) (now files) (now journal)) (before .session .standing) (reading .command) (reading .count) 0 (now made) × (before .count < 65535) ⌝ }
     ensures { λ r. ⌜ stateOf r (lent (now (table .exit)) (now (files .exit)) (now (journal .exit))) ≡ spec.stepRead (now (script .entry)) domain reading (stateOf before (lent (now (table .entry)) (now (files .entry)) (now (journal .entry)))) ⌝ }
 {
     let from = reading.from;

@@ -16,7 +16,7 @@ unfoldable pub costOf : Change → ℕ → ℕ
 costOf Nothing lc = 0
 costOf (Content start size offset) lc = entryBytes lc
 costOf (DataRecord r) lc = entryBytes lc + entryBytes 1
-costOf (SumRecord r) lc = entryBytes (r .«record») + entryBytes 1
+costOf (SumRecord r) lc = entryBytes (r .«record_length») + entryBytes 1
 costOf (TableByte place new) lc = entryBytes 1
 
 pub cost-told : (change : Change) («data» bytes : List ℕ) → Brief change → length bytes ≡ 255 → cost (writesOf change «data» bytes) ≡ costOf change (length «data»)
@@ -24,7 +24,7 @@ unfolding Brief cost writesOf recordWrites costOf
 cost-told Nothing «data» bytes b w = refl
 cost-told (Content start size offset) «data» bytes b w = omega arith
 cost-told (DataRecord r) «data» bytes b w = omega arith
-cost-told (SumRecord r) «data» bytes b w = rw (length-take-le (r .«record») bytes (omega arith)) (omega arith)
+cost-told (SumRecord r) «data» bytes b w = rw (length-take-le (r .«record_length») bytes (omega arith)) (omega arith)
 cost-told (TableByte place new) «data» bytes b w = refl
 
 cost-small : (change : Change) (lc : ℕ) → Brief change → lc < 256 → costOf change lc < 65536

@@ -32,7 +32,7 @@ use Rattle.plan.specs.Promised.{Recorded, planOf, Fits, newestOf, updateChange,
 use Rattle.plan.specs.Plans.{Situation, offsetOf, namedBy, switch, doneBy}
 use Rattle.decide.specs.Fails.{fails, kindFits, renews, offsetOutside, noRecord, lengthFits}
 use Rattle.decide.specs.Order.{formalChecks, boundChecks}
-use Rattle.decide.specs.Promised.{FirstOf, Checkable, Bound, Whole, Formal, roomed, Able, Ready, Unroomed, Decided}
+use Rattle.decide.specs.Promised.{FirstOf, FileCheckAsks, Bound, Whole, Formal, roomed, FileCommandAsks, DecideAsks, Unroomed, Decided}
 use Rattle.decide.specs.Decisions.{situation, planned}
 use Rattle.decide.proofs.Order.{record-kind}
 use Rattle.card.proofs.Places.{offset-inside}
@@ -65,7 +65,7 @@ module _ {files lc : ℕ} {c : Command} {s : Standing} {r : Row} (p : Known file
   pub has-named : isRecord (c .instruction) ≡ true → renews (c .instruction) r ≡ false → (1 ≤ namedBy c (s .number) r) × (namedBy c (s .number) r ≤ recordCount r)
   has-named h g = named-there c (s .number) r h g (p .«record»)
 
-  pub to-sum : c .instruction ≡ ins.increase → Recorded files r × (r .«record» ≤ 127) × (lc ≤ r .«record»)
+  pub to-sum : c .instruction ≡ ins.increase → Recorded files r × (r .«record_length» ≤ 127) × (lc ≤ r .«record_length»)
   to-sum e =
       let k = kind-increased (c .instruction) r e (p .kind) in
       (p .recorded (cyclic-records r (k .0)), k .1, length-increased (c .instruction) r (offsetOf c) (c .p3) lc (p .length) e)
@@ -80,8 +80,8 @@ module _ {files lc : ℕ} {c : Command} {s : Standing} {r : Row} (p : Known file
       on-pick (Fits t files lc) (isCyclic r) _ _ (λ y. (newest-fits t files (s .file) r has h, l)) (λ n. (p .inside, omega arith))
 
 -- what a card that is ready has
-module _ {card : Card} {s : Standing} {c : Command} {lc : ℕ} (ready : Ready card s c lc) where
-  pub able : Able (card .table) (card .files) s c lc
+module _ {card : Card} {s : Standing} {c : Command} {lc : ℕ} (ready : DecideAsks card s c lc) where
+  pub able : FileCommandAsks (card .table) (card .files) s c lc
   able = record { table = card-table card (ready .sound); good = ready .good; bytes = ready .bytes }
 
   pub journal-parts : Parts (card .table) (card .files) (card .journal)
@@ -91,7 +91,7 @@ module _ {card : Card} {s : Standing} {c : Command} {lc : ℕ} (ready : Ready ca
   journal-inside = omega (arith, used-inside (card .table) (card .files) (card .journal) journal-parts)
 
 -- what a sound table and a good session give
-module _ {t files : List ℕ} {s : Standing} {c : Command} {lc : ℕ} (can : Able t files s c lc) where
+module _ {t files : List ℕ} {s : Standing} {c : Command} {lc : ℕ} (can : FileCommandAsks t files s c lc) where
   file-here : s .file < entries t
   file-here = ⊎-elim (λ z. let h = some-entries t files (can .table) in omega arith) (λ p. can .good .file p .belongs .inside) (eq-zero-or-pos (s .file))
 
@@ -111,11 +111,11 @@ module _ {t files : List ℕ} {s : Standing} {c : Command} {lc : ℕ} (can : Abl
     own : ownSound (length files) r ≡ true
     own = rw same (entry-own t files (can .table) (s .file) file-here)
 
-    records-long : hasRecords r ≡ true → 1 ≤ r .«record»
+    records-long : hasRecords r ≡ true → 1 ≤ r .«record_length»
     records-long has = record-some (length files) r own has
 
     -- what `checked` asks
-    pub to-check : {i : ℕ} → c .instruction ≡ i → Checkable i c lc r
+    pub to-check : {i : ℕ} → c .instruction ≡ i → FileCheckAsks i c lc r
     to-check e = (e, records-long, can .bytes)
 
     passed : Narrow r → (w : Situation) → Bound c lc s r w → AllPass w boundChecks → Known (length files) c lc s r
@@ -174,7 +174,7 @@ own-situation format domain c «data» s t files journal row =
     (own-formal format domain c «data» s (lent t files journal), record { session = refl; row = sym (row .0) })
 
 -- what is known where all are passed
-pub check-passed : {domain : ℕ} {c : Command} («data» : List ℕ) {s : Standing} {t files : List ℕ} {r : Row} {came : Checked} → Read t s r → Told domain c (length «data») s r came → came ≡ Passed → Able t files s c (length «data») → Known (length files) c (length «data») s r
+pub check-passed : {domain : ℕ} {c : Command} («data» : List ℕ) {s : Standing} {t files : List ℕ} {r : Row} {came : Checked} → Read t s r → Told domain c (length «data») s r came → came ≡ Passed → FileCommandAsks t files s c (length «data») → Known (length files) c (length «data») s r
 check-passed {domain} {c} «data» {s} {t} {files} row told all can =
     let w = situation Compact domain c «data» s (lent t files []) in
     let so = own-situation Compact domain c «data» s t files [] row in
@@ -209,7 +209,7 @@ module _ {domain : ℕ} {c : Command} {«data» : List ℕ} {s : Standing} {t fi
     pub check-plainly : eqb i ins.increase ≡ false → {format : Format} {bytes : List ℕ} {d : Decision} → ((journal : List ℕ) → planOf d «data» bytes ≡ doneBy i (situation format domain c «data» s (lent t files journal))) → Fits (length t) (length files) (length «data») (d .change) → Unroomed format domain c «data» s t files bytes d
     check-plainly n so = check-done (λ journal. so journal ∙ sym (plain-sum i (fileAt (lent t files journal) (s .file)) «data» s _ n))
 
-    pub check-switched : {state : ℕ} → Switches i state → Able t files s c (length «data») → {d : Decision} → ((«data» bytes : List ℕ) (f : File) → f .entry ≡ s .file → planOf d «data» bytes ≡ switch state s f) × (d .change ≡ TableByte (placeOfState (s .file)) state) → (format : Format) (bytes : List ℕ) → Unroomed format domain c «data» s t files bytes d
+    pub check-switched : {state : ℕ} → Switches i state → FileCommandAsks t files s c (length «data») → {d : Decision} → ((«data» bytes : List ℕ) (f : File) → f .entry ≡ s .file → planOf d «data» bytes ≡ switch state s f) × (d .change ≡ TableByte (placeOfState (s .file)) state) → (format : Format) (bytes : List ℕ) → Unroomed format domain c «data» s t files bytes d
     unfolding situation fileAt Fits
     check-switched this can does format bytes =
         check-plainly (this .plain) (λ journal. does .0 «data» bytes _ refl ∙ sym (this .done _)) (rw (does .1) (state-inside can, this .byte))
@@ -218,7 +218,7 @@ module _ {domain : ℕ} {c : Command} {«data» : List ℕ} {s : Standing} {t fi
 abbrev pub WithRoom : Decision → Standing → ℕ → ℕ → ℕ → Decision → Type 0
 WithRoom d s lc used left e = (((«data» bytes : List ℕ) → length «data» ≡ lc → length bytes ≡ 255 → planOf e «data» bytes ≡ roomed used left s (planOf d «data» bytes)) × ((t f : ℕ) → Fits t f lc (d .change) → Fits t f lc (e .change)))
 
-pub room-decided : (format : Format) (domain : ℕ) (c : Command) («data» : List ℕ) (s : Standing) (t files journal bytes : List ℕ) {d e : Decision} {used left : ℕ} → Ready (lent t files journal) s c (length «data») → eqb (c .instruction) ins.select ≡ false → eqb (c .instruction) ins.getResponse ≡ false → used ≡ usedBytes journal → left ≡ room journal → length bytes ≡ 255 → Unroomed format domain c «data» s t files bytes d → WithRoom d s (length «data») used left e → Decided (lent t files journal) «data» bytes (planned (situation format domain c «data» s (lent t files journal))) e
+pub room-decided : (format : Format) (domain : ℕ) (c : Command) («data» : List ℕ) (s : Standing) (t files journal bytes : List ℕ) {d e : Decision} {used left : ℕ} → DecideAsks (lent t files journal) s c (length «data») → eqb (c .instruction) ins.select ≡ false → eqb (c .instruction) ins.getResponse ≡ false → used ≡ usedBytes journal → left ≡ room journal → length bytes ≡ 255 → Unroomed format domain c «data» s t files bytes d → WithRoom d s (length «data») used left e → Decided (lent t files journal) «data» bytes (planned (situation format domain c «data» s (lent t files journal))) e
 unfolding situation fileAt
 room-decided format domain c «data» s t files journal bytes ready a b u l long unroomed told =
     let inside = journal-parts ready .used in

@@ -79,11 +79,11 @@ data-some c lc y h = some-data (carriesData (c .instruction)) lc y (or-none (not
 
 -- kinds, offsets and lengths
 module _ (i : ℕ) (r : Row) where
-  pub kind-increased : i ≡ ins.increase → kindFits i r ≡ true → (isCyclic r ≡ true) × (r .«record» ≤ 127)
+  pub kind-increased : i ≡ ins.increase → kindFits i r ≡ true → (isCyclic r ≡ true) × (r .«record_length» ≤ 127)
   unfolding kindFits pick
   kind-increased e h =
       let k = rw e at h in
-      (and-left _ _ k, leb-true (r .«record») 127 (and-right (isCyclic r) _ k))
+      (and-left _ _ k, leb-true (r .«record_length») 127 (and-right (isCyclic r) _ k))
 
   pub offset-read : (offset : ℕ) → i ≡ ins.readBinary → offsetOutside i offset r ≡ false → offset < r .size
   offset-read offset e h = leb-false (r .size) offset (rw e at h)
@@ -93,13 +93,13 @@ module _ (i : ℕ) (r : Row) where
     unfolding lengthFits pick
     length-binary e = leb-true (offset + lc) (r .size) (rw e at h)
 
-    pub length-record : i ≡ ins.updateRecord → lc ≡ r .«record»
+    pub length-record : i ≡ ins.updateRecord → lc ≡ r .«record_length»
     unfolding lengthFits pick
-    length-record e = eqb-true lc (r .«record») (rw e at h)
+    length-record e = eqb-true lc (r .«record_length») (rw e at h)
 
-    pub length-increased : i ≡ ins.increase → lc ≤ r .«record»
+    pub length-increased : i ≡ ins.increase → lc ≤ r .«record_length»
     unfolding lengthFits pick
-    length-increased e = leb-true lc (r .«record») (rw e at h)
+    length-increased e = leb-true lc (r .«record_length») (rw e at h)
 
 -- the record that is named is there; DC on a cyclic file names none
 both-pass : (a b c : Bool) → a ≡ true → b ≡ false → ((a && not b) && not c) ≡ false → c ≡ true

@@ -67,7 +67,7 @@ kindFits i r =
     (isTransparent r)
     (pick (isRecord i)
     (hasRecords r)
-    (pick (eqb i ins.increase) (isCyclic r && leb (r .«record») longestIncrease) true))
+    (pick (eqb i ins.increase) (isCyclic r && leb (r .«record_length») longestIncrease) true))
 
 -- DC on a cyclic file writes the oldest place, whatever the record number
 abbrev pub renews : ℕ → Row → Bool
@@ -105,10 +105,10 @@ lengthFits i offset p3 lc r =
     pick (eqb i ins.updateBinary)
     (leb (offset + lc) (r .size))
     (pick (eqb i ins.readRecord)
-    (eqb p3 0 || eqb p3 (r .«record»))
+    (eqb p3 0 || eqb p3 (r .«record_length»))
     (pick (eqb i ins.updateRecord)
-    (eqb lc (r .«record»))
-    (pick (eqb i ins.search || eqb i ins.increase) (leb lc (r .«record»)) true)))
+    (eqb lc (r .«record_length»))
+    (pick (eqb i ins.search || eqb i ins.increase) (leb lc (r .«record_length»)) true)))
 
 -- "6581 exactly when U would pass 2,044"
 unfoldable pub journalFull : Situation → Bool

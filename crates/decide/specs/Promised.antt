@@ -52,8 +52,8 @@ abbrev pub Whole : Command → ℕ → ℕ → Standing → Row → Situation �
 Whole c lc domain s r w = Formal c lc domain w × OnFile s r w
 
 -- what the checks on a file go by: the command's instruction, that the file's records are not empty, and that the command's numbers are bytes
-abbrev pub Checkable : ℕ → Command → ℕ → Row → Type 0
-Checkable i c lc r = (c .instruction ≡ i) × (hasRecords r ≡ true → 1 ≤ r .«record») × OfBytes c lc
+abbrev pub FileCheckAsks : ℕ → Command → ℕ → Row → Type 0
+FileCheckAsks i c lc r = (c .instruction ≡ i) × (hasRecords r ≡ true → 1 ≤ r .«record_length») × OfBytes c lc
 
 -- a plan behind the check of the journal's room
 unfoldable pub roomed : ℕ → ℕ → Standing → Plan → Plan
@@ -75,13 +75,13 @@ unfoldable pub roomless : Situation → Plan
 roomless w = decided w (firstFailing w (formalChecks ++ (boundChecks ++ (SumTooLong ∷ []))))
 
 -- what a file command may go by: the table is sound, the session good, and the command's numbers are bytes
-pub record Able (t files : List ℕ) (s : Standing) (c : Command) (lc : ℕ) : Type 0 where
+pub record FileCommandAsks (t files : List ℕ) (s : Standing) (c : Command) (lc : ℕ) : Type 0 where
   pub table : soundTable t files ≡ true
   pub good : Good t s
   pub bytes : OfBytes c lc
 
 -- what deciding a command may go by: the card is sound, the session good, and the command's numbers are bytes
-pub record Ready (card : Card) (s : Standing) (c : Command) (lc : ℕ) : Type 0 where
+pub record DecideAsks (card : Card) (s : Standing) (c : Command) (lc : ℕ) : Type 0 where
   pub sound : soundCard card ≡ true
   pub good : Good (card .table) s
   pub bytes : OfBytes c lc

@@ -35,7 +35,7 @@ ghost use mathlib.Core.Bool.{true};
 ghost use Prim.Native.Nat.{_≤_, _<_};
 ghost use Rattle.card.specs.Row.{hasRecords};
 ghost use Rattle.decide.specs.Fails as spec;
-ghost use Rattle.decide.specs.Promised.{FirstOf, Formal, Bound, Checkable};
+ghost use Rattle.decide.specs.Promised.{FirstOf, Formal, Bound, FileCheckAsks};
 ghost use Rattle.decide.specs.Order.{boundChecks, formalChecks};
 
 // "INCREASE, .. record length at most 127"
@@ -136,7 +136,7 @@ fn kind_fits(i: usize, r: Row) -> bool
         return (r.kind == card::LINEAR) | (r.kind == card::CYCLIC);
     }
     if i == INCREASE {
-        return (r.kind == card::CYCLIC) & (r.record <= LONGEST_INCREASE);
+        return (r.kind == card::CYCLIC) & (r.record_length <= LONGEST_INCREASE);
     }
     true
 }
@@ -172,7 +172,7 @@ fn offset_outside(i: usize, offset: usize, r: Row) -> bool
 
 // Whether a command names a record, from the current record number, that the file has not.
 fn no_record(i: usize, c: Command, number: usize, r: Row) -> bool
-    requires { ⌜ (c .instruction ≡ i) × (hasRecords r ≡ true → 1 ≤ r .«record») × (spec.kindFits i r ≡ true) ⌝ }
+    requires { ⌜ (c .instruction ≡ i) × (hasRecords r ≡ true → 1 ≤ r .«record_length») × (spec.kindFits i r ≡ true) ⌝ }
     ensures { λ b. ⌜ b ≡ spec.noRecord c number r ⌝ }
 {
     if !is_record(i) {
@@ -193,13 +193,13 @@ fn length_fits(i: usize, offset: usize, p3: usize, lc: usize, r: Row) -> bool
         return offset + lc <= r.size;
     }
     if i == READ_RECORD {
-        return (p3 == 0) | (p3 == r.record);
+        return (p3 == 0) | (p3 == r.record_length);
     }
     if i == UPDATE_RECORD {
-        return lc == r.record;
+        return lc == r.record_length;
     }
     if (i == SEARCH) | (i == INCREASE) {
-        return lc <= r.record;
+        return lc <= r.record_length;
     }
     true
 }
@@ -207,7 +207,7 @@ fn length_fits(i: usize, offset: usize, p3: usize, lc: usize, r: Row) -> bool
 // The first of the checks on a file, up to the lengths, for a command with its instruction i and lc data bytes, from where its session
 // stands, on a file with the row r.
 pub fn file_check(i: usize, c: Command, lc: usize, s: Standing, r: Row) -> Checked
-    requires { ⌜ Checkable i c lc r ⌝ }
+    requires { ⌜ FileCheckAsks i c lc r ⌝ }
     ensures { λ k. ⌜ FirstOf boundChecks (Bound c lc s r) k ⌝ }
 {
     let offset = c.p1 * 256 + c.p2;

@@ -27,7 +27,7 @@ ghost use Rattle.card.specs.Row.{Narrow, entrySize, rowOf};
 ghost use Rattle.command.specs.Instructions as ins;
 ghost use Rattle.plan.specs.Files as files-spec;
 ghost use Rattle.decide.specs.Order.{boundChecks, formalChecks};
-ghost use Rattle.decide.specs.Promised.{FirstOf, Whole, Checkable, Able, Unroomed};
+ghost use Rattle.decide.specs.Promised.{FirstOf, Whole, FileCheckAsks, FileCommandAsks, Unroomed};
 
 // The row of the file that a command works on.
 fn target_row(table: &[u8], s: Standing) -> Row
@@ -39,7 +39,7 @@ fn target_row(table: &[u8], s: Standing) -> Row
 
 // The first check of a file command that fails, up to the lengths.
 fn checked(i: usize, c: Command, lc: usize, domain: usize, s: Standing, r: Row) -> Checked
-    requires { ⌜ Checkable i c lc r ⌝ }
+    requires { ⌜ FileCheckAsks i c lc r ⌝ }
     ensures { λ k. ⌜ FirstOf (formalChecks ++ boundChecks) (Whole c lc domain s r) k ⌝ }
 {
     if let Checked::Failed(k) = formal_check(i, c, lc, domain) {
@@ -58,7 +58,7 @@ pub fn read_binary(
     table: &[u8],
     files: &[u8],
 ) -> Decision
-    requires { ⌜ Able (now table) (now files) s c (length (now «data»)) × (c .instruction ≡ ins.readBinary) ⌝ }
+    requires { ⌜ FileCommandAsks (now table) (now files) s c (length (now «data»)) × (c .instruction ≡ ins.readBinary) ⌝ }
     ensures { λ d. ⌜ ((bytes : List ℕ) → Unroomed format domain c (now («data» .entry)) s (now (table .entry)) (now (files .entry)) bytes d) ⌝ }
 {
     let r = target_row(table, s);
@@ -77,7 +77,7 @@ pub fn update_binary(
     table: &[u8],
     files: &[u8],
 ) -> Decision
-    requires { ⌜ Able (now table) (now files) s c (length (now «data»)) × (c .instruction ≡ ins.updateBinary) ⌝ }
+    requires { ⌜ FileCommandAsks (now table) (now files) s c (length (now «data»)) × (c .instruction ≡ ins.updateBinary) ⌝ }
     ensures { λ d. ⌜ ((format : Format) (bytes : List ℕ) → Unroomed format domain c (now («data» .entry)) s (now (table .entry)) (now (files .entry)) bytes d) ⌝ }
 {
     let r = target_row(table, s);
@@ -96,7 +96,7 @@ pub fn read_record(
     table: &[u8],
     files: &[u8],
 ) -> Decision
-    requires { ⌜ Able (now table) (now files) s c (length (now «data»)) × (c .instruction ≡ ins.readRecord) ⌝ }
+    requires { ⌜ FileCommandAsks (now table) (now files) s c (length (now «data»)) × (c .instruction ≡ ins.readRecord) ⌝ }
     ensures { λ d. ⌜ ((format : Format) (bytes : List ℕ) → Unroomed format domain c (now («data» .entry)) s (now (table .entry)) (now (files .entry)) bytes d) ⌝ }
 {
     let r = target_row(table, s);
@@ -115,7 +115,7 @@ pub fn update_record(
     table: &[u8],
     files: &[u8],
 ) -> Decision
-    requires { ⌜ Able (now table) (now files) s c (length (now «data»)) × (c .instruction ≡ ins.updateRecord) ⌝ }
+    requires { ⌜ FileCommandAsks (now table) (now files) s c (length (now «data»)) × (c .instruction ≡ ins.updateRecord) ⌝ }
     ensures { λ d. ⌜ ((format : Format) (bytes : List ℕ) → Unroomed format domain c (now («data» .entry)) s (now (table .entry)) (now (files .entry)) bytes d) ⌝ }
 {
     let r = target_row(table, s);
@@ -136,7 +136,7 @@ pub fn search(
     files: &[u8],
     made: &mut [u8],
 ) -> Decision
-    requires { ⌜ Able (now table) (now files) s c (length (now «data»)) × (c .instruction ≡ ins.search) × (length (now made) ≡ 255) ⌝ }
+    requires { ⌜ FileCommandAsks (now table) (now files) s c (length (now «data»)) × (c .instruction ≡ ins.search) × (length (now made) ≡ 255) ⌝ }
     ensures { λ d. ⌜ Unroomed format domain c (now («data» .entry)) s (now (table .entry)) (now (files .entry)) (now (made .exit)) d ⌝ }
 {
     let r = target_row(table, s);
@@ -157,7 +157,7 @@ pub fn increase(
     files: &[u8],
     made: &mut [u8],
 ) -> Decision
-    requires { ⌜ Able (now table) (now files) s c (length (now «data»)) × (c .instruction ≡ ins.increase) × (length (now made) ≡ 255) ⌝ }
+    requires { ⌜ FileCommandAsks (now table) (now files) s c (length (now «data»)) × (c .instruction ≡ ins.increase) × (length (now made) ≡ 255) ⌝ }
     ensures { λ d. ⌜ Unroomed format domain c (now («data» .entry)) s (now (table .entry)) (now (files .entry)) (now (made .exit)) d ⌝ }
 {
     let r = target_row(table, s);
@@ -176,7 +176,7 @@ pub fn deactivate(
     table: &[u8],
     files: &[u8],
 ) -> Decision
-    requires { ⌜ Able (now table) (now files) s c (length (now «data»)) × (c .instruction ≡ ins.deactivate) ⌝ }
+    requires { ⌜ FileCommandAsks (now table) (now files) s c (length (now «data»)) × (c .instruction ≡ ins.deactivate) ⌝ }
     ensures { λ d. ⌜ ((format : Format) (bytes : List ℕ) → Unroomed format domain c (now («data» .entry)) s (now (table .entry)) (now (files .entry)) bytes d) ⌝ }
 {
     let r = target_row(table, s);
@@ -195,7 +195,7 @@ pub fn activate(
     table: &[u8],
     files: &[u8],
 ) -> Decision
-    requires { ⌜ Able (now table) (now files) s c (length (now «data»)) × (c .instruction ≡ ins.activate) ⌝ }
+    requires { ⌜ FileCommandAsks (now table) (now files) s c (length (now «data»)) × (c .instruction ≡ ins.activate) ⌝ }
     ensures { λ d. ⌜ ((format : Format) (bytes : List ℕ) → Unroomed format domain c (now («data» .entry)) s (now (table .entry)) (now (files .entry)) bytes d) ⌝ }
 {
     let r = target_row(table, s);

@@ -42,7 +42,7 @@ ghost use Rattle.decide.specs.Order.{selectChecks};
 ghost use Rattle.decide.specs.Fails.{firstFailing};
 ghost use Rattle.decide.specs.Decisions.{situation, decided, planned};
 ghost use Rattle.plan.specs.Promised.{writesOf, planOf, Fits, Brief};
-ghost use Rattle.decide.specs.Promised.{roomed, responded, Ready, Decided};
+ghost use Rattle.decide.specs.Promised.{roomed, responded, DecideAsks, Decided};
 
 // GET RESPONSE.
 fn get_response(c: Command, s: Standing) -> Decision
@@ -98,7 +98,7 @@ fn cost_of(change: Change, lc: usize) -> usize
         Change::Nothing => 0,
         Change::Content(_, _, _) => entry_bytes(lc),
         Change::DataRecord(_) => entry_bytes(lc) + entry_bytes(1),
-        Change::SumRecord(r) => entry_bytes(r.record) + entry_bytes(1),
+        Change::SumRecord(r) => entry_bytes(r.record_length) + entry_bytes(1),
         Change::TableByte(_, _) => entry_bytes(1),
     }
 }
@@ -127,7 +127,7 @@ pub fn decide(
     journal: &[u8],
     made: &mut [u8],
 ) -> Decision
-    requires { ⌜ Ready (lent (now table) (now files) (now journal)) s c (length (now «data»)) × (length (now made) ≡ 255) ⌝ }
+    requires { ⌜ DecideAsks (lent (now table) (now files) (now journal)) s c (length (now «data»)) × (length (now made) ≡ 255) ⌝ }
     ensures { λ d. ⌜ Decided (lent (now (table .entry)) (now (files .entry)) (now (journal .entry))) (now («data» .entry)) (now (made .exit)) (planned (situation format domain c (now («data» .entry)) s (lent (now (table .entry)) (now (files .entry)) (now (journal .entry))))) d ⌝ }
 {
     let i = c.instruction;

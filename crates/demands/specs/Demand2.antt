@@ -112,7 +112,7 @@ pub record Cyclic (m k : ℕ) : Type 0 where
   pub place : (r : ℕ) → cyclicPlace m k r ≡ (k + r - 1) % m
   -- a file of so many records, with its newest there, has record r at that place
   pub inFile :
-      (f : Row) (r : ℕ) → recordCount f ≡ m → f .newest ≡ k → recordOffset f r ≡ f .«record» * ((k + r - 1) % m)
+      (f : Row) (r : ℕ) → recordCount f ≡ m → f .newest ≡ k → recordOffset f r ≡ f .«record_length» * ((k + r - 1) % m)
   -- record 1 is the newest; records and places are one to one
   pub newest : cyclicPlace m k 1 ≡ k
   pub oneNumber : (r s : ℕ) → 1 ≤ r → r ≤ m → 1 ≤ s → s ≤ m → cyclicPlace m k r ≡ cyclicPlace m k s → r ≡ s

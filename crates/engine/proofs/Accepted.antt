@@ -19,7 +19,7 @@ use Rattle.journal.proofs.Pushed.{marked-scripts}
 use Rattle.journal.proofs.Kept.{mark-sound}
 use Rattle.command.specs.declared.Format.the-variants.{Compact, Expanded}
 use Rattle.engine.specs.Numbers.{Arguments, formatOf, scriptFits, firstGiven, runRefusals}
-use Rattle.engine.specs.Calls.{gives, numbered, unlessRefused, runScript, run, MayStart}
+use Rattle.engine.specs.Calls.{gives, numbered, unlessRefused, runScript, run, RunScriptAsks}
 use Rattle.engine.proofs.RunNumbers.{least-response, RunMet, is-met}
 use Rattle.engine.proofs.Refusals.{arguments-root}
 use Rattle.engine.proofs.Answers.{given-nothing, given-done}
@@ -69,7 +69,7 @@ module _ (c : Card) (a : Arguments) (none : firstGiven (runRefusals c a) ≡ 0) 
 
   -- what the script of either format starts from with the journal that has the mark, and what it comes to
   module _ (j : List ℕ) (is : j ≡ marked (c .journal)) where
-    pub script-starts : MayStart (lent (c .table) (c .files) j) (a .application) (a .script) (a .response)
+    pub script-starts : RunScriptAsks (lent (c .table) (c .files) j) (a .application) (a .script) (a .response)
     unfolding withJournal
     script-starts = (rw is marked-starts, script-short, rw (least-response (formatOf (a .format))) at (found .3))
 

@@ -50,8 +50,8 @@ unfoldable pub unlessRefused : ℕ → Card → List ℕ → Result → Result
 unlessRefused number c response r = elim (eqb number 0) [ true ↦ r | false ↦ gives (numbered number) c response ]
 
 -- what a script of an application starts from: a sound card with its mark, and the lengths of script and response memory
-abbrev pub MayStart : Card → ℕ → List ℕ → List ℕ → Type 0
-MayStart c application script response = Starts c application × (length script ≤ longestScript) × (1024 ≤ length response)
+abbrev pub RunScriptAsks : Card → ℕ → List ℕ → List ℕ → Type 0
+RunScriptAsks c application script response = Starts c application × (length script ≤ longestScript) × (1024 ≤ length response)
 
 -- the items of a template's value, from a place to its end, with the answer of the template's form
 unfoldable pub runValue : Bool → ℕ → ℕ → Arguments → Card → Result

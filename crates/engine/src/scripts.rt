@@ -22,7 +22,7 @@ pub fn run_compact(
     files: &mut [u8],
     journal: &mut [u8],
 ) -> Answer
-    requires { ⌜ spec.MayStart (lent (now table) (now files) (now journal)) application (now script) (now response) ⌝ }
+    requires { ⌜ spec.RunScriptAsks (lent (now table) (now files) (now journal)) application (now script) (now response) ⌝ }
     ensures { λ a. ⌜ (spec.gives a (lent (now (table .exit)) (now (files .exit)) (now (journal .exit))) (now (response .exit))
         ≡ spec.runScript formats.Compact (record { application = application; domain = domain; format = 0; script = now (script .entry); response = now (response .entry) })
         (lent (now (table .entry)) (now (files .entry)) (now (journal .entry)))) × spec.Small a ⌝ }
@@ -49,7 +49,7 @@ fn run_value(
     files: &mut [u8],
     journal: &mut [u8],
 ) -> Answer
-    requires { ⌜ (at ≤ end) × (end ≤ length (now script)) × spec.MayStart (lent (now table) (now files) (now journal)) application (now script) (now response) ⌝ }
+    requires { ⌜ (at ≤ end) × (end ≤ length (now script)) × spec.RunScriptAsks (lent (now table) (now files) (now journal)) application (now script) (now response) ⌝ }
     ensures { λ a. ⌜ (spec.gives a (lent (now (table .exit)) (now (files .exit)) (now (journal .exit))) (now (response .exit))
         ≡ spec.runValue definite at end (record { application = application; domain = domain; format = 1; script = now (script .entry); response = now (response .entry) })
         (lent (now (table .entry)) (now (files .entry)) (now (journal .entry)))) × spec.Small a ⌝ }
@@ -87,7 +87,7 @@ pub fn run_expanded(
     files: &mut [u8],
     journal: &mut [u8],
 ) -> Answer
-    requires { ⌜ spec.MayStart (lent (now table) (now files) (now journal)) application (now script) (now response) ⌝ }
+    requires { ⌜ spec.RunScriptAsks (lent (now table) (now files) (now journal)) application (now script) (now response) ⌝ }
     ensures { λ a. ⌜ (spec.gives a (lent (now (table .exit)) (now (files .exit)) (now (journal .exit))) (now (response .exit))
         ≡ spec.runScript formats.Expanded (record { application = application; domain = domain; format = 1; script = now (script .entry); response = now (response .entry) })
         (lent (now (table .entry)) (now (files .entry)) (now (journal .entry)))) × spec.Small a ⌝ }

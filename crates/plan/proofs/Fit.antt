@@ -141,7 +141,7 @@ module _ (card : Card) (sound : soundTable (card .table) (card .files) ≡ true)
           (record-inside card sound (s .file) (file .belongs .inside) has (namedBy c (s .number) r))
           (λ b. omega arith)
 
-      pub fit-rewrite : («data» : List ℕ) → length «data» ≡ r .«record» → (isCyclic r ≡ false → namedBy c (s .number) r ≤ recordCount r) → Fit card c (updateRecord c «data» s (fileAt card (s .file)))
+      pub fit-rewrite : («data» : List ℕ) → length «data» ≡ r .«record_length» → (isCyclic r ≡ false → namedBy c (s .number) r ≤ recordCount r) → Fit card c (updateRecord c «data» s (fileAt card (s .file)))
       unfolding updateRecord fileAt
       fit-rewrite «data» fits most =
           on-pick (Fit card c) _ _ _
@@ -160,12 +160,12 @@ module _ (card : Card) (sound : soundTable (card .table) (card .files) ≡ true)
           let content = part (card .files) (r .start) (r .size) in
           fit-found format _ (found-few r content (c .p2) «data» (namedBy c (s .number) r) least most) (found-first r content (c .p2) «data» (namedBy c (s .number) r) least most)
 
-      pub fit-increase : (format : Format) («data» : List ℕ) → isCyclic r ≡ true → r .«record» ≤ 127 → length «data» ≤ r .«record» → Fit card c (increase format «data» s (fileAt card (s .file)))
+      pub fit-increase : (format : Format) («data» : List ℕ) → isCyclic r ≡ true → r .«record_length» ≤ 127 → length «data» ≤ r .«record_length» → Fit card c (increase format «data» s (fileAt card (s .file)))
       unfolding increase fileAt
       fit-increase format «data» cyclic short few =
           let content = part (card .files) (r .start) (r .size) in
-          let new = bytesOf (r .«record») (sum r content «data») in
-          let l = bytesOf-length (r .«record») (sum r content «data») in
+          let new = bytesOf (r .«record_length») (sum r content «data») in
+          let l = bytesOf-length (r .«record_length») (sum r content «data») in
           fit-produced card c (atRecord s 1) (at-number 1 (records-some (length (card .files)) r own has)) format _ (new ++ «data») _
           (rw (length-append new «data», l) (omega arith))
           (in-newest card sound (s .file) (file .belongs .inside) has new l cyclic)

@@ -20,9 +20,9 @@ use Rattle.journal.specs.Changes.{kindFor}
 use Rattle.journal.proofs.Kept.{FormSound, AllForms}
 use Rattle.plan.specs.Files.{fileAt, writeIn, newRecord}
 
-newest-byte : (r : Row) (v : ℕ) → isCyclic r ≡ true → 1 ≤ r .«record» → v < recordCount r → tableByteSound r 9 v ≡ true
+newest-byte : (r : Row) (v : ℕ) → isCyclic r ≡ true → 1 ≤ r .«record_length» → v < recordCount r → tableByteSound r 9 v ≡ true
 unfolding tableByteSound newestSound pick
-newest-byte r v cyclic some below = rw (cyclic, le-leb 1 (r .«record») some) (lt-ltb v (recordCount r) below)
+newest-byte r v cyclic some below = rw (cyclic, le-leb 1 (r .«record_length») some) (lt-ltb v (recordCount r) below)
 
 module _ (card : Card) (sound : soundTable (card .table) (card .files) ≡ true) (e : ℕ) (here : e < entries (card .table)) where
   abbrev r : Row
@@ -57,19 +57,19 @@ module _ (card : Card) (sound : soundTable (card .table) (card .files) ≡ true)
     unfolding recordPlace
     below k = place-below (recordCount r) (r .newest) k (records-some (length (card .files)) r own has)
 
-    pub record-inside : (k : ℕ) → r .start + recordOffset r k + r .«record» ≤ length (card .files)
+    pub record-inside : (k : ℕ) → r .start + recordOffset r k + r .«record_length» ≤ length (card .files)
     record-inside k =
         let inside = file-inside (length (card .files)) r own (records-file r has) in
         let within = offset-inside r (records-some (length (card .files)) r own has) k in
         omega arith
 
     -- one that is written, and a new one with the place that becomes newest
-    module _ (new : List ℕ) (fits : length new ≡ r .«record») where
-      at-place : (p : ℕ) → p < recordCount r → FormSound (writeIn (fileAt card e) (r .«record» * p) new) card
+    module _ (new : List ℕ) (fits : length new ≡ r .«record_length») where
+      at-place : (p : ℕ) → p < recordCount r → FormSound (writeIn (fileAt card e) (r .«record_length» * p) new) card
       at-place p l =
           let some = record-some (length (card .files)) r own has in
           let short = record-short (length (card .files)) r own has in
-          in-file (records-file r has) (r .«record» * p) new (omega arith) (omega arith) (rw fits (place-inside r p l))
+          in-file (records-file r has) (r .«record_length» * p) new (omega arith) (omega arith) (rw fits (place-inside r p l))
 
       pub in-record : (k : ℕ) → FormSound (writeIn (fileAt card e) (recordOffset r k) new) card
       unfolding recordOffset

@@ -34,16 +34,16 @@ module _ (n m : ℕ) where
 
 -- record 1 of a file, as it is lent: its place in the file is given
 abbrev pub first : List ℕ → Row → ℕ → List ℕ
-first files r off = part files (r .start + off) (r .start + off + r .«record» - (r .start + off))
+first files r off = part files (r .start + off) (r .start + off + r .«record_length» - (r .start + off))
 
-first-length : (files : List ℕ) (r : Row) (off : ℕ) → off + r .«record» ≤ r .size → r .start + r .size ≤ length files → length (first files r off) ≡ r .«record»
+first-length : (files : List ℕ) (r : Row) (off : ℕ) → off + r .«record_length» ≤ r .size → r .start + r .size ≤ length files → length (first files r off) ≡ r .«record_length»
 first-length files r off inside lies =
-    rw (part-lent files (r .start + off) (r .«record»)) (part-length files (r .start + off) (r .«record») (omega arith))
+    rw (part-lent files (r .start + off) (r .«record_length»)) (part-length files (r .start + off) (r .«record_length») (omega arith))
 
 -- the file that INCREASE works on
 pub record Raised (files : List ℕ) (s : Standing) (r : Row) (off : ℕ) (f : File) : Type 0 where
   pub at : off ≡ recordOffset r 1
-  pub inside : off + r .«record» ≤ r .size
+  pub inside : off + r .«record_length» ≤ r .size
   pub lies : r .start + r .size ≤ length files
   pub row : f .row ≡ r
   pub entry : f .entry ≡ s .file
@@ -56,43 +56,43 @@ module _ {files : List ℕ} {s : Standing} {r : Row} {off : ℕ} {f : File} (h :
   first-sum : added ≡ sum (f .row) (f .content) «data»
   unfolding sum recordBytes
   first-sum =
-      rw (h .row, h .content, ← (h .at), lent-part files (r .start) (r .size) off (r .«record») (h .inside))
+      rw (h .row, h .content, ← (h .at), lent-part files (r .start) (r .size) off (r .«record_length») (h .inside))
 
-  width : length (first files r off) ≡ f .row .«record»
-  width = first-length files r off (h .inside) (h .lies) ∙ ap (λ (q : Row). q .«record») (sym (h .row))
+  width : length (first files r off) ≡ f .row .«record_length»
+  width = first-length files r off (h .inside) (h .lies) ∙ ap (λ (q : Row). q .«record_length») (sym (h .row))
 
   module _ {carry : ℕ} (e : carry ≡ added / 256 ^ length (first files r off)) where
-    carried : carry ≡ sum (f .row) (f .content) «data» / 256 ^ f .row .«record»
+    carried : carry ≡ sum (f .row) (f .content) «data» / 256 ^ f .row .«record_length»
     carried = e ∙ (λ i. first-sum i / 256 ^ width i)
 
     pub sum-fails : (carry ≡ 0 → ⊥) → (plan : Plan) → failed s SumTooLong ≡ summed ins.increase f «data» s plan
     unfolding summed sumTooLong
-    sum-fails z plan = sym (pick-true _ _ _ (sum-long _ (256 ^ f .row .«record») (λ q. z (carried ∙ q))))
+    sum-fails z plan = sym (pick-true _ _ _ (sum-long _ (256 ^ f .row .«record_length») (λ q. z (carried ∙ q))))
 
     pub sum-done : carry ≡ 0 → {p plan : Plan} → p ≡ plan → p ≡ summed ins.increase f «data» s plan
     unfolding summed sumTooLong
-    sum-done z q = q ∙ sym (pick-false _ _ _ (sum-short _ (256 ^ f .row .«record») (one-le-pow (f .row .«record») 256 (omega arith)) (sym carried ∙ z)))
+    sum-done z q = q ∙ sym (pick-false _ _ _ (sum-short _ (256 ^ f .row .«record_length») (one-le-pow (f .row .«record_length») 256 (omega arith)) (sym carried ∙ z)))
 
   -- the new record
   abbrev new : List ℕ
-  new = bytesOf (f .row .«record») (sum (f .row) (f .content) «data»)
+  new = bytesOf (f .row .«record_length») (sum (f .row) (f .content) «data»)
 
-  new-length : length new ≡ r .«record»
-  new-length = bytesOf-length (f .row .«record») _ ∙ ap (λ (q : Row). q .«record») (h .row)
+  new-length : length new ≡ r .«record_length»
+  new-length = bytesOf-length (f .row .«record_length») _ ∙ ap (λ (q : Row). q .«record_length») (h .row)
 
-  pub new-count : r .«record» + length «data» ≡ length (new ++ «data»)
+  pub new-count : r .«record_length» + length «data» ≡ length (new ++ «data»)
   new-count = let n = new-length in simp length-append (omega arith)
 
-  pub new-bytes : (w₀ : List ℕ) {w₁ w₂ : List ℕ} → length w₀ ≡ 255 → r .«record» + length «data» ≤ 255 → w₁ ≡ overwrite w₀ 0 (bytesOf (length (first files r off)) added) → w₂ ≡ overwrite w₁ (r .«record») «data» → w₂ ≡ overwrite w₀ 0 (new ++ «data»)
+  pub new-bytes : (w₀ : List ℕ) {w₁ w₂ : List ℕ} → length w₀ ≡ 255 → r .«record_length» + length «data» ≤ 255 → w₁ ≡ overwrite w₀ 0 (bytesOf (length (first files r off)) added) → w₂ ≡ overwrite w₁ (r .«record_length») «data» → w₂ ≡ overwrite w₀ 0 (new ++ «data»)
   new-bytes w₀ {w₁} l k e g =
       let n = new-length in
-      let p : r .«record» ≡ 0 + length new = omega arith in
+      let p : r .«record_length» ≡ 0 + length new = omega arith in
       let m : w₁ ≡ overwrite w₀ 0 new = e ∙ (λ i. overwrite w₀ 0 (bytesOf (width i) (first-sum i))) in
       g ∙ (λ i. overwrite (m i) (p i) «data») ∙ sym (write-two w₀ 0 new «data» (omega arith))
 
-  new-taken : (w₀ : List ℕ) → take (r .«record») (overwrite w₀ 0 (new ++ «data»)) ≡ new
+  new-taken : (w₀ : List ℕ) → take (r .«record_length») (overwrite w₀ 0 (new ++ «data»)) ≡ new
   unfolding overwrite
-  new-taken w₀ = rw append-assoc (take-at new _ (r .«record») new-length)
+  new-taken w₀ = rw append-assoc (take-at new _ (r .«record_length») new-length)
 
   pub new-writes : (w₀ : List ℕ) → writesOf (SumRecord (newestOf (s .file) r)) «data» (overwrite w₀ 0 (new ++ «data»)) ≡ newRecord f new
   unfolding writesOf recordWrites newestOf newRecord writeIn

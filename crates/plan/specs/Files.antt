@@ -81,7 +81,7 @@ hasRecord r number = leb 1 number && leb number (recordCount r)
 
 -- the bytes of a record of a file, in its content
 unfoldable pub recordBytes : Row → List ℕ → ℕ → List ℕ
-recordBytes r content number = part content (recordOffset r number) (r .«record»)
+recordBytes r content number = part content (recordOffset r number) (r .«record_length»)
 
 -- "A2 SEARCH, P2 04 from record P1 .. to the last, 05 back to the first"
 abbrev pub searchForward : ℕ
@@ -122,10 +122,10 @@ writeIn f offset new = record { memory = Files; place = f .row .start + offset; 
 -- "DC on cyclic: .. it writes the oldest place, which becomes newest"
 unfoldable pub newRecord : File → List ℕ → List Write
 newRecord f new =
-    writeIn f (f .row .«record» * oldestPlace (f .row)) new
+    writeIn f (f .row .«record_length» * oldestPlace (f .row)) new
     ∷ record { memory = Table; place = placeOfNewest (f .entry); new = oldestPlace (f .row) ∷ [] }
     ∷ []
 
 -- "sum too long 9850": it has no room in the record's bytes
 unfoldable pub sumTooLong : ℕ → File → List ℕ → Bool
-sumTooLong i f «data» = eqb i ins.increase && leb (256 ^ f .row .«record») (sum (f .row) (f .content) «data»)
+sumTooLong i f «data» = eqb i ins.increase && leb (256 ^ f .row .«record_length») (sum (f .row) (f .content) «data»)

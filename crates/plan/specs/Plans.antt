@@ -88,7 +88,7 @@ atNamed c s number = atRecord s (numberAfter (c .p2) (s .number) number)
 unfoldable pub readRecord : Command → Standing → File → Plan
 readRecord c s f =
     let number : ℕ = namedBy c (s .number) (f .row) in
-    handed (atNamed c s number) normal (f .row .start + recordOffset (f .row) number) (f .row .«record»)
+    handed (atNamed c s number) normal (f .row .start + recordOffset (f .row) number) (f .row .«record_length»)
 
 -- DC UPDATE RECORD; "on cyclic: .. it writes the oldest place, which becomes newest, record number 1"
 unfoldable pub updateRecord : Command → List ℕ → Standing → File → Plan
@@ -110,7 +110,7 @@ search format c «data» s f =
 -- "32 INCREASE, ..: record 1 plus the data becomes the new record 1, as DC would. Data: new record, then the added bytes."
 unfoldable pub increase : Format → List ℕ → Standing → File → Plan
 increase format «data» s f =
-    let new : List ℕ = bytesOf (f .row .«record») (sum (f .row) (f .content) «data») in
+    let new : List ℕ = bytesOf (f .row .«record_length») (sum (f .row) (f .content) «data») in
     produced format (atRecord s 1) normal (new ++ «data») (newRecord f new)
 
 -- "04, 44 .. deactivate, activate the current file; repeating it is 9000, journalled too."

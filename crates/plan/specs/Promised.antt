@@ -27,7 +27,7 @@ use Rattle.plan.specs.Plans.{namedBy}
 -- what every record file of a sound table has, over a file memory of so many bytes
 pub record Recorded (files : ℕ) (r : Row) : Type 0 where
   pub narrow : Narrow r
-  pub least : 1 ≤ r .«record»
+  pub least : 1 ≤ r .«record_length»
   pub counted : 1 ≤ recordCount r
   pub most : recordCount r < 255
   pub inside : r .start + r .size ≤ files
@@ -35,7 +35,7 @@ pub record Recorded (files : ℕ) (r : Row) : Type 0 where
 -- the writes of a new record
 unfoldable pub recordWrites : NewRecord → List ℕ → List Write
 recordWrites r new =
-    record { memory = Files; place = r .start + r .«record» * r .place; new = new }
+    record { memory = Files; place = r .start + r .«record_length» * r .place; new = new }
     ∷ record { memory = Table; place = placeOfNewest (r .entry); new = r .place ∷ [] }
     ∷ []
 
@@ -45,7 +45,7 @@ writesOf Nothing «data» bytes = []
 writesOf (Content start size offset) «data» bytes =
     record { memory = Files; place = start + offset; new = «data» } ∷ []
 writesOf (DataRecord r) «data» bytes = recordWrites r «data»
-writesOf (SumRecord r) «data» bytes = recordWrites r (take (r .«record») bytes)
+writesOf (SumRecord r) «data» bytes = recordWrites r (take (r .«record_length») bytes)
 writesOf (TableByte place new) «data» bytes = record { memory = Table; place = place; new = new ∷ [] } ∷ []
 
 -- the plan of a decision, with the command's data and the bytes at whose start stands what it made
@@ -61,14 +61,14 @@ planOf d «data» bytes =
 -- where a new record lies, in a table and a file memory of so many bytes
 pub record RecordFits (table files : ℕ) (r : NewRecord) : Type 0 where
   pub file : r .start + r .size ≤ files
-  pub inside : r .«record» * r .place + r .«record» ≤ r .size
+  pub inside : r .«record_length» * r .place + r .«record_length» ≤ r .size
   pub entry : placeOfNewest (r .entry) < table
   pub byte : r .place < 256
 
 -- what writing a new record asks for: it lies inside the card, its bytes are a record, and the journal, whose head is given, has room for its writes
 pub record WriteRecordFits (table files journal : List ℕ) (h : Head) (r : NewRecord) (new : List ℕ) : Type 0 where
   pub fits : RecordFits (length table) (length files) r
-  pub whole : length new ≡ r .«record»
+  pub whole : length new ≡ r .«record_length»
   pub head : h ≡ headOf journal
   pub short : length journal ≤ 65535
   pub left : HasRoom journal (cost (recordWrites r new))
@@ -77,14 +77,14 @@ pub record WriteRecordFits (table files journal : List ℕ) (h : Head) (r : NewR
 unfoldable pub Fits : ℕ → ℕ → ℕ → Change → Type 0
 Fits table files lc Nothing = Unit
 Fits table files lc (Content start size offset) = (start + size ≤ files) × (offset + lc ≤ size)
-Fits table files lc (DataRecord r) = RecordFits table files r × (lc ≡ r .«record»)
-Fits table files lc (SumRecord r) = RecordFits table files r × (r .«record» ≤ mostWaiting)
+Fits table files lc (DataRecord r) = RecordFits table files r × (lc ≡ r .«record_length»)
+Fits table files lc (SumRecord r) = RecordFits table files r × (r .«record_length» ≤ mostWaiting)
 Fits table files lc (TableByte place new) = (place < table) × (new < 256)
 
 -- the new record of a cyclic file
 unfoldable pub newestOf : ℕ → Row → NewRecord
 newestOf file r =
-    record { entry = file; start = r .start; size = r .size; «record» = r .«record»; place = oldestPlace r }
+    record { entry = file; start = r .start; size = r .size; «record_length» = r .«record_length»; place = oldestPlace r }
 
 -- what DC writes
 unfoldable pub updateChange : Command → Standing → Row → Change
@@ -102,5 +102,5 @@ unfoldable pub Brief : Change → Type 0
 Brief Nothing = Unit
 Brief (Content start size offset) = Unit
 Brief (DataRecord r) = Unit
-Brief (SumRecord r) = r .«record» ≤ mostWaiting
+Brief (SumRecord r) = r .«record_length» ≤ mostWaiting
 Brief (TableByte place new) = Unit

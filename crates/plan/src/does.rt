@@ -111,33 +111,33 @@ pub fn update_binary(c: Command, s: Standing, r: Row) -> Decision
 
 // READ RECORD.
 pub fn read_record(c: Command, s: Standing, r: Row) -> Decision
-    requires { ⌜ Narrow r × (1 ≤ r .«record») × (recordCount r < 256) × (1 ≤ plans.namedBy c (s .number) r) × (plans.namedBy c (s .number) r ≤ recordCount r) ⌝ }
+    requires { ⌜ Narrow r × (1 ≤ r .«record_length») × (recordCount r < 256) × (1 ≤ plans.namedBy c (s .number) r) × (plans.namedBy c (s .number) r ≤ recordCount r) ⌝ }
     ensures { λ d. ⌜ ((«data» bytes : List ℕ) (f : File) → f .row ≡ r → planOf d «data» bytes ≡ plans.readRecord c s f) × (d .change ≡ Change.Nothing) ⌝ }
 {
     let current = s.number as usize;
     let number = record_of(c, current, r);
     let place = r.start + card::records::record_offset(r, number);
     let next = session::at_record(s, number_after(c.p2, current, number));
-    handed(next, NORMAL, place, r.record)
+    handed(next, NORMAL, place, r.record_length)
 }
 
 // The new record of a cyclic file.
 fn new_record(file: usize, r: Row) -> NewRecord
-    requires { ⌜ Narrow r × (1 ≤ r .«record») × (1 ≤ recordCount r) ⌝ }
+    requires { ⌜ Narrow r × (1 ≤ r .«record_length») × (1 ≤ recordCount r) ⌝ }
     ensures { λ n. ⌜ n ≡ newestOf file r ⌝ }
 {
     NewRecord {
         entry: file,
         start: r.start,
         size: r.size,
-        record: r.record,
+        record_length: r.record_length,
         place: card::records::oldest_place(r),
     }
 }
 
 // UPDATE RECORD.
 pub fn update_record(c: Command, s: Standing, r: Row) -> Decision
-    requires { ⌜ Narrow r × (1 ≤ r .«record») × (1 ≤ recordCount r) × (recordCount r < 256) × (isCyclic r ≡ false → (1 ≤ plans.namedBy c (s .number) r) × (plans.namedBy c (s .number) r ≤ recordCount r)) ⌝ }
+    requires { ⌜ Narrow r × (1 ≤ r .«record_length») × (1 ≤ recordCount r) × (recordCount r < 256) × (isCyclic r ≡ false → (1 ≤ plans.namedBy c (s .number) r) × (plans.namedBy c (s .number) r ≤ recordCount r)) ⌝ }
     ensures { λ d. ⌜ ((«data» bytes : List ℕ) (f : File) → f .row ≡ r → f .entry ≡ s .file → planOf d «data» bytes ≡ plans.updateRecord c «data» s f) × (d .change ≡ updateChange c s r) ⌝ }
 {
     if r.kind == card::CYCLIC {
@@ -182,10 +182,10 @@ pub fn increase(
     files: &[u8],
     made: &mut [u8],
 ) -> Decision
-    requires { ⌜ Recorded (length (now files)) r × (r .«record» ≤ 127) × (length (now «data») ≤ r .«record») × (length (now made) ≡ 255) ⌝ }
+    requires { ⌜ Recorded (length (now files)) r × (r .«record_length» ≤ 127) × (length (now «data») ≤ r .«record_length») × (length (now made) ≡ 255) ⌝ }
     ensures { λ d. ⌜ ((f : File) → f .row ≡ r → f .entry ≡ s .file → f .content ≡ part (now (files .entry)) (r .start) (r .size) → planOf d (now («data» .entry)) (now (made .exit)) ≡ summed ins.increase f (now («data» .entry)) s (plans.increase format (now («data» .entry)) s f)) × ((t : ℕ) → placeOfNewest (s .file) < t → Fits t (length (now (files .entry))) (length (now («data» .entry))) (d .change)) ⌝ }
 {
-    let record = r.record;
+    let record = r.record_length;
     let at = r.start + card::records::record_offset(r, 1);
     let end = at + record;
     let carry = crate::sum::add(&files[at..end], data, made);

@@ -23,7 +23,7 @@ pub struct NewRecord {
     pub entry: usize,
     pub start: usize,
     pub size: usize,
-    pub record: usize,
+    pub record_length: usize,
     pub place: usize,
 }
 

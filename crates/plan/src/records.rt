@@ -17,7 +17,7 @@ pub const MODE_ABSOLUTE: usize = 4;
 
 // The record after the current one; 0 where there is none.
 fn next_record(r: Row, number: usize) -> usize
-    requires { ⌜ 1 ≤ r .«record» ⌝ }
+    requires { ⌜ 1 ≤ r .«record_length» ⌝ }
     ensures { λ n. ⌜ n ≡ spec.nextRecord r number ⌝ }
 {
     if number < record_count(r) {
@@ -31,7 +31,7 @@ fn next_record(r: Row, number: usize) -> usize
 
 // The record before the current one; 0 where there is none.
 fn previous_record(r: Row, number: usize) -> usize
-    requires { ⌜ 1 ≤ r .«record» ⌝ }
+    requires { ⌜ 1 ≤ r .«record_length» ⌝ }
     ensures { λ n. ⌜ n ≡ spec.previousRecord r number ⌝ }
 {
     if number == 0 {
@@ -58,7 +58,7 @@ fn absolute_record(p1: usize, number: usize) -> usize
 
 // The record that a record command names, from the current record number.
 pub fn record_of(c: Command, number: usize, r: Row) -> usize
-    requires { ⌜ 1 ≤ r .«record» ⌝ }
+    requires { ⌜ 1 ≤ r .«record_length» ⌝ }
     ensures { λ n. ⌜ n ≡ namedBy c number r ⌝ }
 {
     if c.instruction == SEARCH {
@@ -85,7 +85,7 @@ pub fn number_after(p2: usize, number: usize, named: usize) -> usize
 
 // Whether a file has a record of a number.
 pub fn has_record(r: Row, number: usize) -> bool
-    requires { ⌜ 1 ≤ r .«record» ⌝ }
+    requires { ⌜ 1 ≤ r .«record_length» ⌝ }
     ensures { λ b. ⌜ b ≡ spec.hasRecord r number ⌝ }
 {
     (1 <= number) & (number <= record_count(r))

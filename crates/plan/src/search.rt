@@ -21,7 +21,7 @@ fn record_contains(files: &[u8], r: Row, number: usize, data: &[u8]) -> bool
     ensures { λ b. ⌜ b ≡ contains (spec.recordBytes r (part (now (files .entry)) (r .start) (r .size)) number) (now («data» .entry)) ⌝ }
 {
     let at = r.start + record_offset(r, number);
-    let end = at + r.record;
+    let end = at + r.record_length;
     octets::within(&files[at..end], data)
 }
 
@@ -50,7 +50,7 @@ fn next_searched(p2: usize, number: usize) -> usize
 
 // How many records are to be searched from a number on.
 fn to_search(r: Row, p2: usize, number: usize) -> usize
-    requires { ⌜ (1 ≤ r .«record») × (1 ≤ number) × (number ≤ recordCount r) × (recordCount r < 255) ⌝ }
+    requires { ⌜ (1 ≤ r .«record_length») × (1 ≤ number) × (number ≤ recordCount r) × (recordCount r < 255) ⌝ }
     ensures { λ n. ⌜ n ≡ spec.toSearch r p2 number ⌝ }
 {
     if p2 == SEARCH_FORWARD {

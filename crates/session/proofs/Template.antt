@@ -39,7 +39,7 @@ module _ (r : Row) where
   pub kind-has-records : 5 ≤ r .kind → r .kind ≤ 6 → hasRecords r ≡ true
   kind-has-records h g = ⊎-elim (λ e. rw (← e)) (λ l. let e : r .kind ≡ 6 = omega arith in rw e) (eq-or-lt-of-le h)
 
-  pub records-fcp : 5 ≤ r .kind → r .kind ≤ 6 → 0x62 ∷ 18 ∷ 0x82 ∷ 5 ∷ descriptor r ∷ 0x21 ∷ (bytes2 (r .«record») ++ (recordCount r ∷ (fcp83 r ++ (fcp8A r ++ (0x80 ∷ 2 ∷ bytes2 (r .size)))))) ≡ fcp r
+  pub records-fcp : 5 ≤ r .kind → r .kind ≤ 6 → 0x62 ∷ 18 ∷ 0x82 ∷ 5 ∷ descriptor r ∷ 0x21 ∷ (bytes2 (r .«record_length») ++ (recordCount r ∷ (fcp83 r ++ (fcp8A r ++ (0x80 ∷ 2 ∷ bytes2 (r .size)))))) ≡ fcp r
   unfolding fcp fcpBody fcp82 fcp83 fcp8A fcp80 bytes2 pick
   records-fcp h g =
       rw (kind-has-records h g, file-no-directory r (kind-is-file r (omega arith) g))
@@ -48,7 +48,7 @@ module _ (r : Row) where
   unfolding fcp fcpBody fcp82 fcp83 fcp8A fcp80 bytes2
   fcp-short =
       simp length-append
-      (omega (arith, on-pick (λ (bs : List ℕ). length bs ≤ 7) (hasRecords r) (0x82 ∷ 5 ∷ descriptor r ∷ 0x21 ∷ (bytes2 (r .«record») ++ (recordCount r ∷ []))) (0x82 ∷ 2 ∷ descriptor r ∷ 0x21 ∷ []) (λ h. omega arith) (λ h. omega arith), on-pick (λ (bs : List ℕ). length bs ≤ 4) (isDirectory r) [] (0x80 ∷ 2 ∷ bytes2 (r .size)) (λ h. omega arith) (λ h. omega arith)))
+      (omega (arith, on-pick (λ (bs : List ℕ). length bs ≤ 7) (hasRecords r) (0x82 ∷ 5 ∷ descriptor r ∷ 0x21 ∷ (bytes2 (r .«record_length») ++ (recordCount r ∷ []))) (0x82 ∷ 2 ∷ descriptor r ∷ 0x21 ∷ []) (λ h. omega arith) (λ h. omega arith), on-pick (λ (bs : List ℕ). length bs ≤ 4) (isDirectory r) [] (0x80 ∷ 2 ∷ bytes2 (r .size)) (λ h. omega arith) (λ h. omega arith)))
 
 pub fcp-fits : (t files : List ℕ) → soundTable t files ≡ true → (e : ℕ) → e < entries t → FcpFits (rowOf t e)
 fcp-fits t files sound e here =

@@ -13,7 +13,7 @@ use Rattle.card.specs.Sound.{recordCount}
 pub record FcpFits (r : Row) : Type 0 where
   pub least : 1 ≤ r .kind
   pub most : r .kind ≤ 6
-  pub records : 5 ≤ r .kind → (1 ≤ r .«record») × (recordCount r < 256)
+  pub records : 5 ≤ r .kind → (1 ≤ r .«record_length») × (recordCount r < 256)
 
 -- the file descriptor byte
 unfoldable pub descriptor : Row → ℕ
@@ -23,7 +23,7 @@ descriptor r = pick (isDirectory r) 0x78 (pick (isTransparent r) 0x41 (pick (isL
 unfoldable pub fcp82 : Row → List ℕ
 fcp82 r =
     pick (hasRecords r)
-    (0x82 ∷ 5 ∷ descriptor r ∷ 0x21 ∷ (bytes2 (r .«record») ++ (recordCount r ∷ [])))
+    (0x82 ∷ 5 ∷ descriptor r ∷ 0x21 ∷ (bytes2 (r .«record_length») ++ (recordCount r ∷ [])))
     (0x82 ∷ 2 ∷ descriptor r ∷ 0x21 ∷ [])
 
 -- 83: the file identifier

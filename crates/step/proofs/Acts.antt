@@ -54,7 +54,7 @@ table-write t f j place new {at} e ht hj =
 -- the two writes of a new record
 module _ (t f j : List ℕ) {h : Head} (r : NewRecord) (new : List ℕ) (ready : WriteRecordFits t f j h r new) where
   abbrev place : ℕ
-  place = r .start + r .«record» * r .place
+  place = r .start + r .«record_length» * r .place
 
   module _ {f′ j₁ : List ℕ} (hf : f′ ≡ overwrite f place new) (h₁ : j₁ ≡ pushed j (scriptsOnTrial j) (entryOf (kindFor Files) place (part f place (length new)))) where
     -- the second has room

@@ -27,7 +27,7 @@ use Rattle.plan.specs.declared.Change.the-variants.{Nothing}
 use Rattle.plan.specs.Promised.{planOf}
 use Rattle.plan.proofs.Inside.{none-fits}
 use Rattle.step.specs.Limits.{rapduSize, mostKept, limited}
-use Rattle.decide.specs.Promised.{Ready, Decided}
+use Rattle.decide.specs.Promised.{DecideAsks, Decided}
 
 -- whether the R-APDU of a command with n data bytes counts and would pass the 1,000 bytes
 abbrev pub passes : ℕ → Bool → ℕ → Bool
@@ -68,7 +68,7 @@ module _ (kept : ℕ) (counts : Bool) (s : Standing) (few : kept ≤ mostKept) w
     within test = subst (λ (p : Plan). Decided card «data» bytes p d) (sym (by-passing counts plan ∙ pick-false _ _ _ (same-test ∙ test))) told
 
 -- what is decided of a command has 256 data bytes at most
-pub decided-few : (format : Format) (domain : ℕ) (c : Command) («data» : List ℕ) (s : Standing) (card : Card) → Ready card s c (length «data») → (bytes : List ℕ) (d : Decision) → Decided card «data» bytes (planned (situation format domain c «data» s card)) d → dataCount (d .outcome) ≤ 256
+pub decided-few : (format : Format) (domain : ℕ) (c : Command) («data» : List ℕ) (s : Standing) (card : Card) → DecideAsks card s c (length «data») → (bytes : List ℕ) (d : Decision) → Decided card «data» bytes (planned (situation format domain c «data» s card)) d → dataCount (d .outcome) ≤ 256
 unfolding planOf
 decided-few format domain c «data» s card h bytes d told =
     let brief = h .bytes .brief in

@@ -48,7 +48,7 @@ use Rattle.command.proofs.Format.Laws as F′
 use Rattle.command.proofs.Command as C
 use Rattle.command.proofs.Command.Laws as C′
 use Rattle.step.specs.Steps.{movedTo, commanded}
-use Rattle.step.specs.Promised.{MayRun}
+use Rattle.step.specs.Promised.{RunCommandAsks}
 
 -- the machine values of where a script stands, of a session, of its waiting bytes, and of a slice
 abbrev pub low : Standing → Val
@@ -149,7 +149,7 @@ Bytes = List ℕ × (List ℕ × (List ℕ × (List ℕ × Unit {0})))
 -- a command in a session, after `count` others, on a card: what is asked, and what is said of the session, the outcome, the count and the card after it
 module _ (s : Session) (c : Command) («data» : RefT (List ℕ)) (count kept : ℕ) (made : RefT (List ℕ)) (card : Card) where
   abbrev pub AskedOf : Type 0
-  AskedOf = MayRun card (s .standing) c (length (now «data»)) kept (now made) × (count < 65535)
+  AskedOf = RunCommandAsks card (s .standing) c (length (now «data»)) kept (now made) × (count < 65535)
 
   abbrev pub SaidOf : Format → ℕ → Bool → Session → Outcome → ℕ → Card → Type 0
   SaidOf format domain counts s′ outcome count′ after = (movedTo s′ outcome after ≡ commanded format domain c (now «data») s kept counts card) × (count′ ≡ count + 1)

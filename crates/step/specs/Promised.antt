@@ -7,12 +7,12 @@ use Rattle.card.specs.Row.{Card}
 use Rattle.session.specs.declared.Standing.{Standing}
 use Rattle.session.specs.Session.{mostWaiting}
 use Rattle.command.specs.declared.Command.{Command}
-use Rattle.decide.specs.Promised.{Ready}
+use Rattle.decide.specs.Promised.{DecideAsks}
 use Rattle.step.specs.Limits.{mostKept}
 
 -- a command with lc data bytes may run on a card where a script stands so, with `before` bytes of R-APDUs kept and these bytes lent for
 -- what it makes
-pub record MayRun (card : Card) (s : Standing) (c : Command) (lc before : ℕ) (bytes : List ℕ) : Type 0 where
-  pub ready : Ready card s c lc
+pub record RunCommandAsks (card : Card) (s : Standing) (c : Command) (lc before : ℕ) (bytes : List ℕ) : Type 0 where
+  pub ready : DecideAsks card s c lc
   pub kept : before ≤ mostKept
   pub made : length bytes ≡ mostWaiting

@@ -38,7 +38,7 @@ fn write_record(
         Memory::Files,
         r.start,
         r.size,
-        r.record * place,
+        r.record_length * place,
         new,
     );
     let newest = [place as u8];
@@ -86,7 +86,7 @@ pub fn perform(
             write_record(table, files, journal, head, r, data);
         }
         Change::SumRecord(r) => {
-            let n = r.record;
+            let n = r.record_length;
             let head = head_of(journal);
             write_record(table, files, journal, head, r, &made[..n]);
         }

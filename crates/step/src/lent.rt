@@ -34,7 +34,7 @@ fn step(
     files: &mut [u8],
     journal: &mut [u8],
 ) -> Ended
-    requires { ⌜ spec.MayRun (lent (now table) (now files) (now journal)) (now session .standing) c (length (now «data»)) kept (now made) × (count < 65535) ⌝ }
+    requires { ⌜ spec.RunCommandAsks (lent (now table) (now files) (now journal)) (now session .standing) c (length (now «data»)) kept (now made) × (count < 65535) ⌝ }
     ensures { λ r. ⌜ (movedTo (now (session .exit)) (r .outcome) (lent (now (table .exit)) (now (files .exit)) (now (journal .exit)))
         ≡ commanded format domain c (now («data» .entry)) (now (session .entry)) kept counts (lent (now (table .entry)) (now (files .entry)) (now (journal .entry))))
         × (r .count ≡ count + 1) ⌝ }
@@ -74,7 +74,7 @@ pub fn run_step(
     files: &mut [u8],
     journal: &mut [u8],
 ) -> Step
-    requires { ⌜ spec.MayRun (lent (now table) (now files) (now journal)) (before .session .standing) c (length (now «data»)) kept (now made) × (before .count < 65535) ⌝ }
+    requires { ⌜ spec.RunCommandAsks (lent (now table) (now files) (now journal)) (before .session .standing) c (length (now «data»)) kept (now made) × (before .count < 65535) ⌝ }
     ensures { λ r. ⌜ stateOf r (lent (now (table .exit)) (now (files .exit)) (now (journal .exit)))
         ≡ stepped (stateOf before (lent (now (table .entry)) (now (files .entry)) (now (journal .entry))))
         (commanded format domain c (now («data» .entry)) (before .session) kept counts (lent (now (table .entry)) (now (files .entry)) (now (journal .entry)))) ⌝ }

@@ -34,7 +34,7 @@ pub fn run_command(
     files: &mut [u8],
     journal: &mut [u8],
 ) -> Done
-    requires { ⌜ spec.MayRun (lent (now table) (now files) (now journal)) s c (length (now «data»)) kept (now made) × (length (now waiting) ≡ mostWaiting) ⌝ }
+    requires { ⌜ spec.RunCommandAsks (lent (now table) (now files) (now journal)) s c (length (now «data»)) kept (now made) × (length (now waiting) ≡ mostWaiting) ⌝ }
     ensures { λ r. ⌜ movedTo (sessionOf (r .standing) (now (waiting .exit))) (r .outcome) (lent (now (table .exit)) (now (files .exit)) (now (journal .exit)))
         ≡ commanded format domain c (now («data» .entry)) (sessionOf s (now (waiting .entry))) kept counts (lent (now (table .entry)) (now (files .entry)) (now (journal .entry))) ⌝ }
 {

@@ -77,37 +77,36 @@ returns c =
     let at-num-at2 = at-num-at3 .before in
     let at-wide2 = at-num-at2 .before in
     let at-wide = at-wide2 .before .before in
-    let at-num-at = at-wide .before .before in
-    (
-  λ i. record {
-    identifier = (at-num-at .num-at .ensures .0) i;
-    parent = (at-wide .wide .ensures .0) i;
-    kind = (at-wide2 .wide2 .ensures .0) i;
-    start = (at-num-at2 .num-at2 .ensures .0) i;
-    size = (at-num-at3 .num-at3 .ensures .0) i;
-    «record» = (at-wide3 .wide3 .ensures .0) i;
-    newest = (at-wide4 .wide4 .ensures .0) i;
-    state = (at-wide5 .wide5 .ensures .0) i;
-    eleven = (at-wide6 .wide6 .ensures .0) i;
-    never = (at-wide7 .wide7 .ensures .0) i;
-    thirteen = (at-num-at4 .num-at4 .ensures .0) i;
-    fifteen = (c .wide8 .ensures .0) i;
-  },
-  record {
-    identifier = at-num-at .num-at .ensures .1;
-    parent = at-wide .wide .ensures .1;
-    kind = at-wide2 .wide2 .ensures .1;
-    start = at-num-at2 .num-at2 .ensures .1;
-    size = at-num-at3 .num-at3 .ensures .1;
-    «record» = at-wide3 .wide3 .ensures .1;
-    newest = at-wide4 .wide4 .ensures .1;
-    state = at-wide5 .wide5 .ensures .1;
-    eleven = at-wide6 .wide6 .ensures .1;
-    never = at-wide7 .wide7 .ensures .1;
-    thirteen = at-num-at4 .num-at4 .ensures .1;
-    fifteen = c .wide8 .ensures .1;
-  },
-)
+    let at-num-at = at-wide .before .before in (
+      λ i. record {
+        identifier = (at-num-at .num-at .ensures .0) i;
+        parent = (at-wide .wide .ensures .0) i;
+        kind = (at-wide2 .wide2 .ensures .0) i;
+        start = (at-num-at2 .num-at2 .ensures .0) i;
+        size = (at-num-at3 .num-at3 .ensures .0) i;
+        «record_length» = (at-wide3 .wide3 .ensures .0) i;
+        newest = (at-wide4 .wide4 .ensures .0) i;
+        state = (at-wide5 .wide5 .ensures .0) i;
+        eleven = (at-wide6 .wide6 .ensures .0) i;
+        never = (at-wide7 .wide7 .ensures .0) i;
+        thirteen = (at-num-at4 .num-at4 .ensures .0) i;
+        fifteen = (c .wide8 .ensures .0) i;
+      },
+      record {
+        identifier = at-num-at .num-at .ensures .1;
+        parent = at-wide .wide .ensures .1;
+        kind = at-wide2 .wide2 .ensures .1;
+        start = at-num-at2 .num-at2 .ensures .1;
+        size = at-num-at3 .num-at3 .ensures .1;
+        «record_length» = at-wide3 .wide3 .ensures .1;
+        newest = at-wide4 .wide4 .ensures .1;
+        state = at-wide5 .wide5 .ensures .1;
+        eleven = at-wide6 .wide6 .ensures .1;
+        never = at-wide7 .wide7 .ensures .1;
+        thirteen = at-num-at4 .num-at4 .ensures .1;
+        fifteen = c .wide8 .ensures .1;
+      },
+    )
 
 pub row-of-spec : {M : Type 1} → statement M
 row-of-spec =

@@ -10,7 +10,7 @@ record-count-requires : tie.Need-record-count-requires
 record-count-requires c κs = search needs
 
 cyclic-place-requires : tie.Need-cyclic-place-requires
-cyclic-place-requires c κs = omega (arith, c .record-count .ensures .0, div-le-self (c .before .args .f .size) (c .before .args .f .«record»))
+cyclic-place-requires c κs = omega (arith, c .record-count .ensures .0, div-le-self (c .before .args .f .size) (c .before .args .f .«record_length»))
 
 returns : tie.Need-returns
 unfolding oldestPlace recordPlace

@@ -12,9 +12,9 @@ record-count-requires : tie.Need-record-count-requires
 record-count-requires c κs = search needs
 
 cyclic-place-requires : tie.Need-cyclic-place-requires
-cyclic-place-requires c κs = omega (arith, c .record-count .ensures .0, div-le-self (c .before .args .f .size) (c .before .args .f .«record»))
+cyclic-place-requires c κs = omega (arith, c .record-count .ensures .0, div-le-self (c .before .args .f .size) (c .before .args .f .«record_length»))
 
-inside : (c : tie.After-cyclic-place) → c .before .before .args .f .«record» * c .cyclic-place .result + c .before .before .args .f .«record» ≤ c .before .before .args .f .size
+inside : (c : tie.After-cyclic-place) → c .before .before .args .f .«record_length» * c .cyclic-place .result + c .before .before .args .f .«record_length» ≤ c .before .before .args .f .size
 inside c = ends-inside _ _ _ _ (c .cyclic-place .ensures .1) (c .before .record-count .ensures .1)
 
 mul-result : tie.Need-mul-result

@@ -10,14 +10,14 @@ use Rattle.card.proofs.rules.newest_sound.Tie as tie
 
 returns : tie.Need-returns
 unfolding newestSound pick
-returns c = rw (eq-eqb _ _ (c .before .if1 .taken), lt-leb 1 (c .before .before .before .args .r .«record») (omega arith))
+returns c = rw (eq-eqb _ _ (c .before .if1 .taken), lt-leb 1 (c .before .before .before .args .r .«record_length») (omega arith))
 
 div-result : tie.Need-div-result
 div-result c = search needs
 
 returns-2 : tie.Need-returns-2
 unfolding newestSound pick
-returns-2 c = rw (eq-eqb _ _ (c .before .before .if1 .taken), le-leb 1 (c .before .before .before .before .args .r .«record») (omega arith))
+returns-2 c = rw (eq-eqb _ _ (c .before .before .if1 .taken), le-leb 1 (c .before .before .before .before .args .r .«record_length») (omega arith))
 
 returns-3 : tie.Need-returns-3
 unfolding newestSound

@@ -14,7 +14,7 @@ returns c = search picks
 
 returns-2 : tie.Need-returns-2
 unfolding recordsSound pick
-returns-2 c = rw (ne-eqb _ _ (c .before .if1 .left), lt-leb 1 (c .before .before .before .args .r .«record») (omega arith))
+returns-2 c = rw (ne-eqb _ _ (c .before .if1 .left), lt-leb 1 (c .before .before .before .args .r .«record_length») (omega arith))
 
 div-count : tie.Need-div-count
 div-count c = search needs
@@ -24,7 +24,7 @@ rem-result c = search needs
 
 returns-3 : tie.Need-returns-3
 unfolding recordsSound pick
-returns-3 c = rw (ne-eqb _ _ (c .before .before .before .if1 .left), le-leb 1 (c .before .before .before .before .before .args .r .«record») (omega arith))
+returns-3 c = rw (ne-eqb _ _ (c .before .before .before .if1 .left), le-leb 1 (c .before .before .before .before .before .args .r .«record_length») (omega arith))
 
 pub records-sound-spec : {M : Type 1} → statement M
 records-sound-spec = tie.close (tie.spec returns returns-2 div-count rem-result returns-3)

@@ -113,7 +113,7 @@ returns-2 c =
     let sum-made = at-add .add .ensures in (
       λ f row entry content.
           let h = raised k f row entry content in
-          let out = bytesOf (f .row .«record») (sum (f .row) (f .content) (a .«data» .now)) ++ a .«data» .now in
+          let out = bytesOf (f .row .«record_length») (sum (f .row) (f .content) (a .«data» .now)) ++ a .«data» .now in
           let e = new-bytes h (a .«data» .now) (a .made .now) (p .3) (omega (arith, p .1, p .2)) (sum-made .1) (at-copy .copy .ensures) in
           sum-done h (a .«data» .now) (sum-made .0) (at-else1 .if1 .left)
           (c .produced .ensures .0 (a .«data» .now) _ out (a .made .now) e (new-count h (a .«data» .now))

@@ -37,7 +37,7 @@ returns c =
     let at-start = at-record-offset .before .before .before in
     let s = at-start .args in
     let o = at-record-offset .record-offset in
-    rw (← (o .ensures .0)) (c .within .ensures ∙ ap (λ (l : List ℕ). contains l (s .«data» .now)) (lent-part (s .files .now) (s .r .start) (s .r .size) (o .result) (s .r .«record») (o .ensures .1)))
+    rw (← (o .ensures .0)) (c .within .ensures ∙ ap (λ (l : List ℕ). contains l (s .«data» .now)) (lent-part (s .files .now) (s .r .start) (s .r .size) (o .result) (s .r .«record_length») (o .ensures .1)))
 
 pub record-contains-spec : {M : Type 1} → statement M
 record-contains-spec =

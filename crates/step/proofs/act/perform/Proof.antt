@@ -33,9 +33,9 @@ module _ (s : tie.Start) {other : Change} (same : s .args .change ≡ other) whe
   steps = known-steps same (s .args .«data» .now) (s .args .made .now) (whole s)
 
 -- a sum stands at the start of what was made
-sum-long : (s : tie.Start) (r : NewRecord) → s .args .change ≡ SumRecord r → length (take (r .«record») (s .args .made .now)) ≡ r .«record»
+sum-long : (s : tie.Start) (r : NewRecord) → s .args .change ≡ SumRecord r → length (take (r .«record_length») (s .args .made .now)) ≡ r .«record_length»
 unfolding Fits
-sum-long s r same = length-take-le (r .«record») (s .args .made .now) (omega (arith, fits s same .1, s .pre .1))
+sum-long s r same = length-take-le (r .«record_length») (s .args .made .now) (omega (arith, fits s same .1, s .pre .1))
 
 -- what the card's lent memories are known to be in front of the arms
 abbrev start : tie.After-slice-known3 → tie.Start
