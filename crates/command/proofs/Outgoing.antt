@@ -10,7 +10,7 @@ use Rattle.octets.proofs.Writes.{part-length}
 use Rattle.command.specs.declared.Outcome.{Outcome}
 use Rattle.command.specs.declared.Outcome.the-variants.{Well, FromFiles, FromWaiting, Error}
 use Rattle.command.specs.Outcomes.{dataOf, dataCount}
-use Rattle.command.specs.Promised.{OutcomeFits}
+use Rattle.command.specs.Promised.{mostData, OutcomeFits}
 
 pub data-length : (o : Outcome) (files waiting : List ℕ) → OutcomeFits (length files) o → length waiting ≡ 255 → length (dataOf o files waiting) ≡ dataCount o
 unfolding dataOf OutcomeFits
@@ -19,7 +19,7 @@ data-length (FromFiles word place n) files waiting fits all = part-length files 
 data-length (FromWaiting word n) files waiting fits all = length-take-le n waiting (omega (arith, fits))
 data-length (Error k) files waiting fits all = refl
 
-pub data-few : (o : Outcome) (files : ℕ) → OutcomeFits files o → dataCount o ≤ 256
+pub data-few : (o : Outcome) (files : ℕ) → OutcomeFits files o → dataCount o ≤ mostData
 unfolding OutcomeFits
 data-few (Well word) files fits = omega arith
 data-few (FromFiles word place n) files fits = fits .1

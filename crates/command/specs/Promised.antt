@@ -1,5 +1,6 @@
 -- What promises speak of besides the rules: numbers that are bytes, and where data lie.
 use Prim.Native.Nat.{ℕ, _+_, _≤_, _<_}
+use Rattle.session.specs.Session.{mostWaiting}
 use Rattle.command.specs.declared.Command.{Command}
 use Rattle.command.specs.declared.Outcome.{Outcome}
 use Rattle.command.specs.declared.Outcome.the-variants.{Well, FromFiles, FromWaiting, Error}
@@ -11,9 +12,13 @@ pub record OfBytes (c : Command) (lc : ℕ) : Type 0 where
   pub p3 : c .p3 < 256
   pub brief : lc < 256
 
--- the data of an outcome lie in a file memory of so many bytes, 256 at most, or in the 255 waiting bytes
+-- the most data bytes that a command hands out
+abbrev pub mostData : ℕ
+mostData = 256
+
+-- the data of an outcome lie in a file memory of so many bytes, `mostData` at most, or in the waiting bytes
 unfoldable pub OutcomeFits : ℕ → Outcome → Type 0
 OutcomeFits files (Well word) = Unit
-OutcomeFits files (FromFiles word place n) = (place + n ≤ files) × (n ≤ 256)
-OutcomeFits files (FromWaiting word n) = n ≤ 255
+OutcomeFits files (FromFiles word place n) = (place + n ≤ files) × (n ≤ mostData)
+OutcomeFits files (FromWaiting word n) = n ≤ mostWaiting
 OutcomeFits files (Error k) = Unit

@@ -5,6 +5,7 @@ ghost use mathlib.Core.Path.{_≡_};
 ghost use Prim.Native.Nat.{_+_, _≤_};
 ghost use lib.ListN.{length, take};
 ghost use Rattle.octets.specs.Bytes.{part, overwrite};
+ghost use Rattle.session.specs.Session.{mostWaiting};
 ghost use Rattle.command.specs.Outcomes as spec;
 ghost use Rattle.command.specs.Promised.{OutcomeFits};
 
@@ -70,7 +71,7 @@ pub fn from_waiting<'f, 'w>(files: &'f [u8], waiting: &'w [u8], n: usize) -> &'w
 
 // The data of an outcome are written at a place; what comes out is the place after them.
 pub fn put_data(out: &mut [u8], at: usize, o: Outcome, files: &[u8], waiting: &[u8]) -> usize
-    requires { ⌜ OutcomeFits (length (now files)) o × (length (now waiting) ≡ 255) × (at + spec.dataCount o ≤ length (now out)) ⌝ }
+    requires { ⌜ OutcomeFits (length (now files)) o × (length (now waiting) ≡ mostWaiting) × (at + spec.dataCount o ≤ length (now out)) ⌝ }
     ensures { λ r. ⌜ (now (out .exit) ≡ overwrite (now (out .entry)) at (spec.dataOf o (now (files .entry)) (now (waiting .entry)))) × (r ≡ at + spec.dataCount o) ⌝ }
 {
     match o {

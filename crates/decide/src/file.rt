@@ -24,6 +24,7 @@ ghost use mathlib.Core.List.{List, _++_};
 ghost use Prim.Native.Nat.{ℕ, _+_, _*_, _≤_};
 ghost use lib.ListN.{length};
 ghost use Rattle.card.specs.Row.{Narrow, entrySize, rowOf};
+ghost use Rattle.session.specs.Session.{mostWaiting};
 ghost use Rattle.command.specs.Instructions as ins;
 ghost use Rattle.plan.specs.Files as files-spec;
 ghost use Rattle.decide.specs.Order.{boundChecks, formalChecks};
@@ -136,7 +137,7 @@ pub fn search(
     files: &[u8],
     made: &mut [u8],
 ) -> Decision
-    requires { ⌜ FileCommandAsks (now table) (now files) s c (length (now «data»)) × (c .instruction ≡ ins.search) × (length (now made) ≡ 255) ⌝ }
+    requires { ⌜ FileCommandAsks (now table) (now files) s c (length (now «data»)) × (c .instruction ≡ ins.search) × (length (now made) ≡ mostWaiting) ⌝ }
     ensures { λ d. ⌜ Unroomed format domain c (now («data» .entry)) s (now (table .entry)) (now (files .entry)) (now (made .exit)) d ⌝ }
 {
     let r = target_row(table, s);
@@ -157,7 +158,7 @@ pub fn increase(
     files: &[u8],
     made: &mut [u8],
 ) -> Decision
-    requires { ⌜ FileCommandAsks (now table) (now files) s c (length (now «data»)) × (c .instruction ≡ ins.increase) × (length (now made) ≡ 255) ⌝ }
+    requires { ⌜ FileCommandAsks (now table) (now files) s c (length (now «data»)) × (c .instruction ≡ ins.increase) × (length (now made) ≡ mostWaiting) ⌝ }
     ensures { λ d. ⌜ Unroomed format domain c (now («data» .entry)) s (now (table .entry)) (now (files .entry)) (now (made .exit)) d ⌝ }
 {
     let r = target_row(table, s);

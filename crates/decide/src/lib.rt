@@ -34,6 +34,7 @@ ghost use lib.ListN.{length};
 ghost use Rattle.card.specs.Row.{lent, entries, rowOf};
 ghost use Rattle.card.specs.Tree.{ParentsInside};
 ghost use Rattle.journal.specs.Changes.{cost};
+ghost use Rattle.session.specs.Session.{mostWaiting};
 ghost use Rattle.session.specs.Fcp.{FcpFits};
 ghost use Rattle.session.specs.Select.{find, rowFound};
 ghost use Rattle.command.specs.Instructions as ins;
@@ -71,7 +72,7 @@ fn decide_select(
     table: &[u8],
     made: &mut [u8],
 ) -> Decision
-    requires { ⌜ (length (now made) ≡ 255) × (c .instruction ≡ ins.select) × ((e : ℕ) → find (now table) (s .root) (s .directory) (c .p1) (now «data») ≡ Found.At e → (e < entries (now table)) × (e < 256) × FcpFits (rowOf (now table) e)) × (s .root < entries (now table)) × (s .directory < entries (now table)) × ParentsInside (now table) ⌝ }
+    requires { ⌜ (length (now made) ≡ mostWaiting) × (c .instruction ≡ ins.select) × ((e : ℕ) → find (now table) (s .root) (s .directory) (c .p1) (now «data») ≡ Found.At e → (e < entries (now table)) × (e < 256) × FcpFits (rowOf (now table) e)) × (s .root < entries (now table)) × (s .directory < entries (now table)) × ParentsInside (now table) ⌝ }
     ensures { λ d. ⌜ ((w : Situation) → w .format ≡ format → w .command ≡ c → w .«data» ≡ now («data» .entry) → w .session ≡ s → w .found ≡ find (now (table .entry)) (s .root) (s .directory) (c .p1) (now («data» .entry)) → w .row ≡ rowFound (now (table .entry)) (find (now (table .entry)) (s .root) (s .directory) (c .p1) (now («data» .entry))) → planOf d (now («data» .entry)) (now (made .exit)) ≡ decided w (firstFailing w selectChecks)) × (d .change ≡ Change.Nothing) ⌝ }
 {
     if !path_length_fits(c.p1, data.len()) {
@@ -92,7 +93,7 @@ fn decide_select(
 // Returns how many journal bytes a change takes, with lc data bytes.
 fn cost_of(change: Change, lc: usize) -> usize
     requires { ⌜ (lc < 256) × Brief change ⌝ }
-    ensures { λ n. ⌜ ((«data» bytes : List ℕ) → length «data» ≡ lc → length bytes ≡ 255 → n ≡ cost (writesOf change «data» bytes)) × (n < 65536) ⌝ }
+    ensures { λ n. ⌜ ((«data» bytes : List ℕ) → length «data» ≡ lc → length bytes ≡ mostWaiting → n ≡ cost (writesOf change «data» bytes)) × (n < 65536) ⌝ }
 {
     match change {
         Change::Nothing => 0,
@@ -106,7 +107,7 @@ fn cost_of(change: Change, lc: usize) -> usize
 // A decision, or 6581 where the journal has no room for what it writes.
 fn with_room(d: Decision, s: Standing, lc: usize, used: usize, room: usize) -> Decision
     requires { ⌜ (lc < 256) × (used < 65536) × (used ≤ room) × Brief (d .change) ⌝ }
-    ensures { λ r. ⌜ ((«data» bytes : List ℕ) → length «data» ≡ lc → length bytes ≡ 255 → planOf r «data» bytes ≡ roomed used room s (planOf d «data» bytes)) × ((t f : ℕ) → Fits t f lc (d .change) → Fits t f lc (r .change)) ⌝ }
+    ensures { λ r. ⌜ ((«data» bytes : List ℕ) → length «data» ≡ lc → length bytes ≡ mostWaiting → planOf r «data» bytes ≡ roomed used room s (planOf d «data» bytes)) × ((t f : ℕ) → Fits t f lc (d .change) → Fits t f lc (r .change)) ⌝ }
 {
     let change = d.change;
     if room < used + cost_of(change, lc) {
@@ -127,7 +128,7 @@ pub fn decide(
     journal: &[u8],
     made: &mut [u8],
 ) -> Decision
-    requires { ⌜ DecideAsks (lent (now table) (now files) (now journal)) s c (length (now «data»)) × (length (now made) ≡ 255) ⌝ }
+    requires { ⌜ DecideAsks (lent (now table) (now files) (now journal)) s c (length (now «data»)) × (length (now made) ≡ mostWaiting) ⌝ }
     ensures { λ d. ⌜ Decided (lent (now (table .entry)) (now (files .entry)) (now (journal .entry))) (now («data» .entry)) (now (made .exit)) (planned (situation format domain c (now («data» .entry)) s (lent (now (table .entry)) (now (files .entry)) (now (journal .entry))))) d ⌝ }
 {
     let i = c.instruction;

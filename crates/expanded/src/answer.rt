@@ -8,6 +8,7 @@ ghost use mathlib.Core.Path.{_≡_};
 ghost use Prim.Native.Nat.{_+_, _≤_, _<_};
 ghost use lib.ListN.{length};
 ghost use Rattle.octets.specs.Bytes.{overwrite};
+ghost use Rattle.session.specs.Session.{mostWaiting};
 ghost use Rattle.command.specs.Outcomes.{wordOf, dataOf, dataCount};
 ghost use Rattle.command.specs.Promised.{OutcomeFits};
 ghost use Rattle.step.specs.Limits.{rapduSize};
@@ -25,7 +26,7 @@ const COUNT: u8 = 0x80;
 
 // The R-APDU of an outcome is written at a place.
 pub fn put_rapdu(out: &mut [u8], at: usize, o: Outcome, files: &[u8], waiting: &[u8]) -> usize
-    requires { ⌜ OutcomeFits (length (now files)) o × (length (now waiting) ≡ 255) × (at + rapduSize (dataCount o) ≤ length (now out)) ⌝ }
+    requires { ⌜ OutcomeFits (length (now files)) o × (length (now waiting) ≡ mostWaiting) × (at + rapduSize (dataCount o) ≤ length (now out)) ⌝ }
     ensures { λ r. ⌜ (now (out .exit) ≡ overwrite (now (out .entry)) at (spec.rapdu (dataOf o (now (files .entry)) (now (waiting .entry))) (wordOf o))) × (r ≡ at + rapduSize (dataCount o)) ⌝ }
 {
     octets::fill(out, at, 1, RAPDU);
@@ -69,7 +70,7 @@ pub fn put_count(out: &mut [u8], at: usize, n: usize) -> usize
 
 // The answer to AA is written to the front of the response memory; what comes out is its length.
 fn put_definite(response: &mut [u8], count: usize, rapdus: &[u8]) -> usize
-    requires { ⌜ (1024 ≤ length (now response)) × (length (now rapdus) ≤ 1004) ⌝ }
+    requires { ⌜ (1024 ≤ length (now response)) × (length (now rapdus) ≤ spec.roomToGather) ⌝ }
     ensures { λ r. ⌜ (now (response .exit) ≡ overwrite (now (response .entry)) 0 (spec.definiteAnswer count (now (rapdus .entry)))) × (r ≡ length (spec.definiteAnswer count (now (rapdus .entry)))) ⌝ }
 {
     let size = count_size(count);
@@ -83,7 +84,7 @@ fn put_definite(response: &mut [u8], count: usize, rapdus: &[u8]) -> usize
 
 // The answer to AE is written to the front of the response memory; what comes out is its length.
 fn put_indefinite(response: &mut [u8], rapdus: &[u8]) -> usize
-    requires { ⌜ (1024 ≤ length (now response)) × (length (now rapdus) ≤ 1004) ⌝ }
+    requires { ⌜ (1024 ≤ length (now response)) × (length (now rapdus) ≤ spec.roomToGather) ⌝ }
     ensures { λ r. ⌜ (now (response .exit) ≡ overwrite (now (response .entry)) 0 (spec.indefiniteAnswer (now (rapdus .entry)))) × (r ≡ length (spec.indefiniteAnswer (now (rapdus .entry)))) ⌝ }
 {
     let n = rapdus.len();
@@ -96,7 +97,7 @@ fn put_indefinite(response: &mut [u8], rapdus: &[u8]) -> usize
 // The answer is written to the front of the response memory, from the count of commands and the gathered R-APDUs; what comes out is
 // its length.
 pub fn put_answer(response: &mut [u8], definite: bool, count: usize, gathered: &[u8]) -> usize
-    requires { ⌜ (1024 ≤ length (now response)) × (length (now gathered) ≤ 1004) × (count ≤ 1024) ⌝ }
+    requires { ⌜ (1024 ≤ length (now response)) × (length (now gathered) ≤ spec.roomToGather) × (count ≤ 1024) ⌝ }
     ensures { λ r. ⌜ (now (response .exit) ≡ overwrite (now (response .entry)) 0 (spec.answerBytes definite count (now (gathered .entry)))) × (r ≡ length (spec.answerBytes definite count (now (gathered .entry)))) ⌝ }
 {
     if definite {

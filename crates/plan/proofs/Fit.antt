@@ -30,7 +30,7 @@ use Rattle.command.specs.declared.Format.the-variants.{Compact, Expanded}
 use Rattle.command.specs.declared.Command.{Command}
 use Rattle.command.specs.declared.checks.Check.{Check}
 use Rattle.command.specs.declared.checks.Check.the-variants.{NotFound}
-use Rattle.command.specs.Promised.{OutcomeFits}
+use Rattle.command.specs.Promised.{mostData, OutcomeFits}
 use Rattle.plan.specs.Ends.{Plan, failed, done, handed, produced}
 use Rattle.plan.specs.Files.{fileAt, numberAfter, sum}
 use Rattle.plan.specs.Plans.{offsetOf, selectEntry, select, mostRead, readBinary, updateBinary, namedBy, atNamed, readRecord, updateRecord, searched, search, increase, switch, getResponse}
@@ -44,7 +44,7 @@ pub record Fit (card : Card) (c : Command) (p : Plan) : Type 0 where
   pub made : length (p .made) ≤ 255
   pub outcome : c .p3 < 256 → OutcomeFits (length (card .files)) (p .outcome)
 
-most-read : (format : Format) → mostRead format ≤ 256
+most-read : (format : Format) → mostRead format ≤ mostData
 unfolding mostRead
 most-read Compact = omega arith
 most-read Expanded = omega arith

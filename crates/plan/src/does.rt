@@ -26,6 +26,7 @@ ghost use lib.ListN.{length};
 ghost use Rattle.octets.specs.Bytes.{part};
 ghost use Rattle.card.specs.Row.{Narrow, isCyclic, placeOfNewest, placeOfState};
 ghost use Rattle.card.specs.Sound.{recordCount};
+ghost use Rattle.session.specs.Session.{mostWaiting};
 ghost use Rattle.session.specs.Fcp.{FcpFits};
 ghost use Rattle.command.specs.Instructions as ins;
 ghost use Rattle.plan.specs.Files.{File};
@@ -51,7 +52,7 @@ pub fn select_entry(
     r: Row,
     made: &mut [u8],
 ) -> Decision
-    requires { ⌜ FcpFits r × Narrow r × (e < 256) × (length (now made) ≡ 255) ⌝ }
+    requires { ⌜ FcpFits r × Narrow r × (e < 256) × (length (now made) ≡ mostWaiting) ⌝ }
     ensures { λ d. ⌜ ((«data» : List ℕ) → planOf d «data» (now (made .exit)) ≡ plans.selectEntry format s p2 e r) × (d .change ≡ Change.Nothing) ⌝ }
 {
     let next = session::selected(s, e, r);
@@ -161,7 +162,7 @@ pub fn search_records(
     files: &[u8],
     made: &mut [u8],
 ) -> Decision
-    requires { ⌜ Recorded (length (now files)) r × (c .instruction ≡ ins.search) × (1 ≤ plans.namedBy c (s .number) r) × (plans.namedBy c (s .number) r ≤ recordCount r) × (length (now made) ≡ 255) ⌝ }
+    requires { ⌜ Recorded (length (now files)) r × (c .instruction ≡ ins.search) × (1 ≤ plans.namedBy c (s .number) r) × (plans.namedBy c (s .number) r ≤ recordCount r) × (length (now made) ≡ mostWaiting) ⌝ }
     ensures { λ d. ⌜ ((f : File) → f .row ≡ r → f .content ≡ part (now (files .entry)) (r .start) (r .size) → planOf d (now («data» .entry)) (now (made .exit)) ≡ plans.search format c (now («data» .entry)) s f) × (d .change ≡ Change.Nothing) ⌝ }
 {
     let number = record_of(c, s.number as usize, r);
@@ -182,7 +183,7 @@ pub fn increase(
     files: &[u8],
     made: &mut [u8],
 ) -> Decision
-    requires { ⌜ Recorded (length (now files)) r × (r .«record_length» ≤ 127) × (length (now «data») ≤ r .«record_length») × (length (now made) ≡ 255) ⌝ }
+    requires { ⌜ Recorded (length (now files)) r × (r .«record_length» ≤ 127) × (length (now «data») ≤ r .«record_length») × (length (now made) ≡ mostWaiting) ⌝ }
     ensures { λ d. ⌜ ((f : File) → f .row ≡ r → f .entry ≡ s .file → f .content ≡ part (now (files .entry)) (r .start) (r .size) → planOf d (now («data» .entry)) (now (made .exit)) ≡ summed ins.increase f (now («data» .entry)) s (plans.increase format (now («data» .entry)) s f)) × ((t : ℕ) → placeOfNewest (s .file) < t → Fits t (length (now (files .entry))) (length (now («data» .entry))) (d .change)) ⌝ }
 {
     let record = r.record_length;

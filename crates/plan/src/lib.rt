@@ -14,6 +14,7 @@ ghost use mathlib.Core.List.{List};
 ghost use Prim.Native.Nat.{ℕ, _≤_, _<_};
 ghost use lib.ListN.{length};
 ghost use Rattle.octets.specs.Bytes.{overwrite};
+ghost use Rattle.session.specs.Session.{mostWaiting};
 ghost use Rattle.plan.specs.Ends as spec;
 ghost use Rattle.plan.specs.Files as files-spec;
 ghost use Rattle.plan.specs.Promised.{writesOf, planOf};
@@ -104,7 +105,7 @@ pub fn waited(s: Standing, word: usize, n: usize) -> Decision
 
 // It ends well, with n bytes that it made.
 pub fn produced(format: Format, s: Standing, n: usize, word: usize, change: Change) -> Decision
-    requires { ⌜ (n ≤ 255) × (word < 65536) ⌝ }
+    requires { ⌜ (n ≤ mostWaiting) × (word < 65536) ⌝ }
     ensures { λ d. ⌜ ((«data» bytes out rest : List ℕ) → bytes ≡ overwrite rest 0 out → n ≡ length out → planOf d «data» bytes ≡ spec.produced format s word out (writesOf change «data» bytes)) × (d .change ≡ change) ⌝ }
 {
     match format {

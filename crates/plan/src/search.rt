@@ -7,6 +7,7 @@ ghost use Prim.Native.Nat.{_+_, _≤_, _<_};
 ghost use lib.ListN.{length};
 ghost use Rattle.octets.specs.Bytes.{part, overwrite, contains};
 ghost use Rattle.card.specs.Sound.{recordCount};
+ghost use Rattle.session.specs.Session.{mostWaiting};
 ghost use Rattle.plan.specs.Files as spec;
 ghost use Rattle.plan.specs.Promised.{Recorded};
 
@@ -61,7 +62,7 @@ fn to_search(r: Row, p2: usize, number: usize) -> usize
 
 // The numbers of the records that contain the data, from a record on, are put at the start of `out`; what comes out is how many.
 pub fn search(files: &[u8], r: Row, p2: usize, from: usize, data: &[u8], out: &mut [u8]) -> usize
-    requires { ⌜ Recorded (length (now files)) r × (1 ≤ from) × (from ≤ recordCount r) × (length (now out) ≡ 255) ⌝ }
+    requires { ⌜ Recorded (length (now files)) r × (1 ≤ from) × (from ≤ recordCount r) × (length (now out) ≡ mostWaiting) ⌝ }
     ensures { λ n. ⌜ (now (out .exit) ≡ overwrite (now (out .entry)) 0 (spec.foundRecords r (part (now (files .entry)) (r .start) (r .size)) p2 (now («data» .entry)) from))
         × (n ≡ length (spec.foundRecords r (part (now (files .entry)) (r .start) (r .size)) p2 (now («data» .entry)) from)) ⌝ }
 {

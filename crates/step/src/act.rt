@@ -63,7 +63,7 @@ pub fn perform(
     files: &mut [u8],
     journal: &mut [u8],
 )
-    requires { ⌜ Fits (length (now table)) (length (now files)) (length (now «data»)) change × (length (now made) ≡ 255) × (length (now journal) < 65536) × HasRoom (now journal) (changes.cost (writesOf change (now «data») (now made))) ⌝ }
+    requires { ⌜ Fits (length (now table)) (length (now files)) (length (now «data»)) change × (length (now made) ≡ mostWaiting) × (length (now journal) < 65536) × HasRoom (now journal) (changes.cost (writesOf change (now «data») (now made))) ⌝ }
     ensures { λ _. ⌜ lent (now (table .exit)) (now (files .exit)) (now (journal .exit)) ≡ changes.perform (writesOf change (now («data» .entry)) (now (made .entry))) (lent (now (table .entry)) (now (files .entry)) (now (journal .entry))) ⌝ }
 {
     match change {

@@ -10,6 +10,7 @@ ghost use mathlib.Core.List.{List};
 ghost use Prim.Native.Nat.{ℕ, _+_, _≤_, _<_};
 ghost use Rattle.card.specs.Row.{Card};
 ghost use Rattle.plan.specs.Ends.{Plan};
+ghost use Rattle.command.specs.Promised.{mostData};
 ghost use Rattle.command.specs.Outcomes.{dataCount};
 ghost use Rattle.step.specs.Limits as spec;
 ghost use Rattle.decide.specs.Promised.{Decided};
@@ -26,7 +27,7 @@ pub fn rapdu_size(n: usize) -> usize
 
 // What was decided, where so many bytes of R-APDUs are kept and this one counts or not.
 pub fn limited(d: Decision, s: Standing, kept: usize, counts: bool) -> Decision
-    requires { ⌜ (kept ≤ 1000) × (dataCount (d .outcome) ≤ 256) ⌝ }
+    requires { ⌜ (kept ≤ spec.mostKept) × (dataCount (d .outcome) ≤ mostData) ⌝ }
     ensures { λ r. ⌜ ((card : Card) («data» bytes : List ℕ) (plan : Plan) → Decided card «data» bytes plan d → Decided card «data» bytes (spec.limited kept counts s plan) r) ⌝ }
 {
     if counts {

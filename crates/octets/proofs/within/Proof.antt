@@ -29,8 +29,9 @@ starts-at-requires c κs = search needs
 
 returns-2 : tie.Need-returns-2 Inv-loop μ-loop
 returns-2 c =
-    let s = c .before .before .before .before .before .before .before in
-    let l = c .before .before .before .loop in
+    let at-loop = c .before .before .before in
+    let s = at-loop .before .before .before .before in
+    let l = at-loop .loop in
     contains-found (s .args .m .now) (s .args .d .now) (l .i) (l .inv .1) (sym (c .before .starts-at .ensures) ∙ c .if2 .taken)
 
 add-i : tie.Need-add-i Inv-loop μ-loop
@@ -41,8 +42,9 @@ loop-less c = search needs
 
 loop-again : tie.Need-loop-again Inv-loop μ-loop
 loop-again c =
-    let s = c .before .before .before .before .before .before .before in
-    let l = c .before .before .before .loop in
+    let at-loop = c .before .before .before in
+    let s = at-loop .before .before .before .before in
+    let l = at-loop .loop in
     let no = sym (c .before .starts-at .ensures) ∙ c .if2 .left in
     (omega (arith, starts-not _ _ no), contains-goes-on (s .args .m .now) (s .args .d .now) (l .i) (l .inv .1) no)
 

@@ -20,7 +20,10 @@ same-length-3 : tie.Need-same-length-3
 same-length-3 c = search needs
 
 returns : tie.Need-returns
-returns c = crossing (c .before .before .before .before .before .before .before .confirm .result) _ _ _ _ (c .before .before .before .before .before .before .before .confirm .ensures .0) (c .packed-answer .ensures)
+returns c =
+    let to-confirm = c .before .before .before .before .before .before in
+    let at-confirm = to-confirm .before in
+    crossing (at-confirm .confirm .result) _ _ _ _ (at-confirm .confirm .ensures .0) (c .packed-answer .ensures)
 
 pub rfm-confirm-spec : {M : Type 1} → statement M
 rfm-confirm-spec =

@@ -23,7 +23,10 @@ same-length-4 : tie.Need-same-length-4
 same-length-4 c = search needs
 
 returns : tie.Need-returns
-returns c = crossing (c .before .before .before .before .before .before .before .before .before .run .result) _ _ _ _ (c .before .before .before .before .before .before .before .before .before .run .ensures .0) (c .packed-answer .ensures)
+returns c =
+    let to-run = c .before .before .before .before .before .before in
+    let at-run = to-run .before .before .before in
+    crossing (at-run .run .result) _ _ _ _ (at-run .run .ensures .0) (c .packed-answer .ensures)
 
 pub rfm-run-spec : {M : Type 1} → statement M
 rfm-run-spec =

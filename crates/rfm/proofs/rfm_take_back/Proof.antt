@@ -20,7 +20,10 @@ same-length-3 : tie.Need-same-length-3
 same-length-3 c = search needs
 
 returns : tie.Need-returns
-returns c = crossing (c .before .before .before .before .before .before .before .take-back .result) _ _ _ _ (c .before .before .before .before .before .before .before .take-back .ensures .0) (c .packed-answer .ensures)
+returns c =
+    let to-take-back = c .before .before .before .before .before .before in
+    let at-take-back = to-take-back .before in
+    crossing (at-take-back .take-back .result) _ _ _ _ (at-take-back .take-back .ensures .0) (c .packed-answer .ensures)
 
 pub rfm-take-back-spec : {M : Type 1} → statement M
 rfm-take-back-spec =

@@ -30,7 +30,12 @@ same-length : tie.Need-same-length
 same-length c = search needs
 
 returns : tie.Need-returns
-returns c = rw (printed-bad (c .before .before .before .before .before .before .before .before .before .args .input .now) (sym (c .before .before .before .before .before .before .input-of .ensures .0) ∙ c .before .before .before .before .enum-told .given .1)) (c .before .before .put-bad .ensures)
+returns c =
+    let at-put-bad = c .before .before in
+    let at-enum-told = at-put-bad .before .before in
+    let at-input-of = at-enum-told .before .before in
+    let at-start = at-input-of .before .before .before in
+    rw (printed-bad (at-start .args .input .now) (sym (at-input-of .input-of .ensures .0) ∙ at-enum-told .enum-told .given .1)) (at-put-bad .put-bad .ensures)
 
 sub-decode : tie.Need-sub-decode
 sub-decode c = input-lies _ _ (c .before .call .given .1) (c .before .before .before .input-of .ensures .1) .0
@@ -51,12 +56,16 @@ decode-requires c κs =
 
 array-share-prefix-script : tie.Need-array-share-prefix-script
 array-share-prefix-script c =
-    let few = script-bytes _ (input-lies _ _ (c .before .before .before .before .before .call .given .1) (c .before .before .before .before .before .before .before .input-of .ensures .1) .2) in
+    let at-call = c .before .before .before .before .before in
+    let at-input-of = at-call .before .before in
+    let few = script-bytes _ (input-lies _ _ (at-call .call .given .1) (at-input-of .input-of .ensures .1) .2) in
     omega (arith, few)
 
 slice-aggregate-put-run : tie.Need-slice-aggregate-put-run
 slice-aggregate-put-run c =
-    let few = script-bytes _ (input-lies _ _ (c .before .before .before .before .before .before .call .given .1) (c .before .before .before .before .before .before .before .before .input-of .ensures .1) .2) in
+    let at-call = c .before .before .before .before .before .before in
+    let at-input-of = at-call .before .before in
+    let few = script-bytes _ (input-lies _ _ (at-call .call .given .1) (at-input-of .input-of .ensures .1) .2) in
     sym (length-take-le _ _ (omega (arith, few)))
 
 put-run-requires : tie.Need-put-run-requires
@@ -67,11 +76,16 @@ same-length-2 c = search needs
 
 returns-2 : tie.Need-returns-2
 returns-2 c =
-    let a = c .before .before .before .before .before .before .before .before .before .before .before .before .before .before .before .args in
-    let i = c .before .before .before .before .before .before .before .before .before .before .before .before .input-of .ensures in
-    let g = c .before .before .before .before .before .before .before .before .before .before .call .given in
-    let d = c .before .before .before .before .before .before .decode .ensures in
-    let p = c .before .before .put-run .ensures in
+    let at-put-run = c .before .before in
+    let at-decode = at-put-run .before .before .before .before in
+    let at-call = at-decode .before .before .before .before in
+    let at-input-of = at-call .before .before in
+    let at-start = at-input-of .before .before .before in
+    let a = at-start .args in
+    let i = at-input-of .input-of .ensures in
+    let g = at-call .call .given in
+    let d = at-decode .decode .ensures in
+    let p = at-put-run .put-run .ensures in
     let t = taken _ _ _ _ (d .0) (d .1) (script-bytes _ (input-lies _ _ (g .1) (i .1) .2)) in
     let e = ap (λ (s : List ℕ). resultLines (ranOn (g .0 .0) s)) t ∙ sym (printed-run (a .input .now) (g .0 .0) (sym (i .0) ∙ g .1)) in
     (p .0 ∙ ap (overwrite (a .out .now) 0) e, p .1 ∙ ap length e, p .2)

@@ -44,8 +44,12 @@ can-be-child-requires c κs = search needs
 returns : tie.Need-returns Inv-loop μ-loop
 unfolding childWith
 returns c =
-    let a = c .before .before .before .before .before .before .before .before .before .before .args in
-    first-found _ _ _ (c .before .before .before .before .before .before .before .loop .inv .1) (omega arith) (tested (a .table .now) (a .directory) (a .only-df) (a .identifier) _ _ (c .before .before .before .before .before .row-at .ensures .0) (c .before .before .before .before .can-be-child .ensures) (c .if1 .taken))
+    let at-can-be-child = c .before .before .before .before in
+    let at-row-at = at-can-be-child .before in
+    let at-loop = at-row-at .before .before in
+    let at-start = at-loop .before .before .before in
+    let a = at-start .args in
+    first-found _ _ _ (at-loop .loop .inv .1) (omega arith) (tested (a .table .now) (a .directory) (a .only-df) (a .identifier) _ _ (at-row-at .row-at .ensures .0) (at-can-be-child .can-be-child .ensures) (c .if1 .taken))
 
 add-e : tie.Need-add-e Inv-loop μ-loop
 add-e c = search needs
@@ -55,8 +59,12 @@ loop-less c = search needs
 
 loop-again : tie.Need-loop-again Inv-loop μ-loop
 loop-again c =
-    let a = c .before .before .before .before .before .before .before .before .before .before .args in
-    (omega arith, first-goes-on _ _ _ (c .before .before .before .before .before .before .before .loop .inv .1) (omega arith) (tested (a .table .now) (a .directory) (a .only-df) (a .identifier) _ _ (c .before .before .before .before .before .row-at .ensures .0) (c .before .before .before .before .can-be-child .ensures) (c .if1 .left)))
+    let at-can-be-child = c .before .before .before .before in
+    let at-row-at = at-can-be-child .before in
+    let at-loop = at-row-at .before .before in
+    let at-start = at-loop .before .before .before in
+    let a = at-start .args in
+    (omega arith, first-goes-on _ _ _ (at-loop .loop .inv .1) (omega arith) (tested (a .table .now) (a .directory) (a .only-df) (a .identifier) _ _ (at-row-at .row-at .ensures .0) (at-can-be-child .can-be-child .ensures) (c .if1 .left)))
 
 returns-2 : tie.Need-returns-2 Inv-loop μ-loop
 unfolding childWith

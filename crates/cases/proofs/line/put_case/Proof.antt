@@ -24,7 +24,9 @@ slice-aggregate-decode-2 c = search needs
 
 decode-requires-2 : tie.Need-decode-requires-2
 decode-requires-2 c κs =
-    let h = script-digits _ _ _ (c .before .before .before .before .before .before .before .before .pre .1) in
+    let to-start = c .before .before .before .before .before .before in
+    let at-start = to-start .before .before in
+    let h = script-digits _ _ _ (at-start .pre .1) in
     (digits-hex _ _ h, digits-few _ _ h)
 
 slice-aggregate-put-run : tie.Need-slice-aggregate-put-run
@@ -32,28 +34,41 @@ slice-aggregate-put-run c = search needs
 
 array-share-prefix-script-bytes : tie.Need-array-share-prefix-script-bytes
 array-share-prefix-script-bytes c =
-    let few = digits-bytes _ _ (script-digits _ _ _ (c .before .before .before .before .before .before .before .before .before .before .before .before .pre .1)) in
-    omega (arith, c .before .before .before .decode2 .ensures .1, few)
+    let at-decode2 = c .before .before .before in
+    let to-start = at-decode2 .before .before .before .before .before .before in
+    let at-start = to-start .before .before .before in
+    let few = digits-bytes _ _ (script-digits _ _ _ (at-start .pre .1)) in
+    omega (arith, at-decode2 .decode2 .ensures .1, few)
 
 slice-aggregate-put-run-2 : tie.Need-slice-aggregate-put-run-2
 slice-aggregate-put-run-2 c =
-    let few = digits-bytes _ _ (script-digits _ _ _ (c .before .before .before .before .before .before .before .before .before .before .before .before .before .pre .1)) in
-    sym (length-take-le _ _ (omega (arith, c .before .before .before .before .decode2 .ensures .1, few)))
+    let at-decode2 = c .before .before .before .before in
+    let to-start = at-decode2 .before .before .before .before .before .before in
+    let at-start = to-start .before .before .before in
+    let few = digits-bytes _ _ (script-digits _ _ _ (at-start .pre .1)) in
+    sym (length-take-le _ _ (omega (arith, at-decode2 .decode2 .ensures .1, few)))
 
 put-run-requires : tie.Need-put-run-requires
-put-run-requires c κs = (omega arith, label-short _ _ _ (c .before .before .before .before .before .before .before .before .before .before .before .before .before .pre .1), omega arith)
+put-run-requires c κs =
+    let to-start = c .before .before .before .before .before .before in
+    let to-start′ = to-start .before .before .before .before .before .before in
+    let at-start = to-start′ .before in
+    (omega arith, label-short _ _ _ (at-start .pre .1), omega arith)
 
 same-length : tie.Need-same-length
 same-length c = search needs
 
 returns : tie.Need-returns
 returns c =
-    let s = c .before .before .before .before .before .before .before .before .before .before .before .before .before .before .before .before .before in
+    let at-put-run = c .before .before .before in
+    let at-decode2 = at-put-run .before .before .before .before .before in
+    let at-decode = at-decode2 .before .before .before in
+    let s = at-decode .before .before .before .before .before .before in
     let a = s .args in
-    let d = c .before .before .before .before .before .before .before .before .decode2 .ensures in
+    let d = at-decode2 .decode2 .ensures in
     let t = taken _ _ _ _ (d .0) (d .1) (digits-bytes _ _ (script-digits _ _ _ (s .pre .1))) in
-    let l = case-line (a .label .now) (a .application) (a .domain) (a .format) (a .journal .now) (a .script .now) _ _ (c .before .before .before .before .before .before .before .before .before .before .before .decode .ensures .0) t in
-    let p = c .before .before .before .put-run .ensures in
+    let l = case-line (a .label .now) (a .application) (a .domain) (a .format) (a .journal .now) (a .script .now) _ _ (at-decode .decode .ensures .0) t in
+    let p = at-put-run .put-run .ensures in
     (p .0 ∙ ap (overwrite (a .out .now) 0) l, p .1 ∙ ap length l, p .2)
 
 pub put-case-spec : {M : Type 1} → statement M

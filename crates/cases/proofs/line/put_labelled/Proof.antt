@@ -44,14 +44,19 @@ same-length c = search needs
 returns : tie.Need-returns
 unfolding labelled ascii
 returns c =
-    let s = c .before .before .before .before .before .before .before .before .before .before .before .before .before .before .before .before .before .before .before .before .before .before .before .before .before .before .before .before in
+    let at-put-bytes2 = c .before .before in
+    let at-put-bytes = at-put-bytes2 .before .before .before .before .before in
+    let at-put-number2 = at-put-bytes .before .before .before .before .before in
+    let at-put-number = at-put-number2 .before .before .before .before .before in
+    let at-copy = at-put-number .before .before .before .before .before in
+    let s = at-copy .before .before .before .before .before .before in
     let start : length (s .args .label .now) ≡ 0 + length (s .args .label .now) = omega arith in
-    let p₁ = c .before .before .before .before .before .before .before .before .before .before .before .before .before .before .before .before .before .put-number .ensures in
-    let p₂ = c .before .before .before .before .before .before .before .before .before .before .before .before .put-number2 .ensures in
-    let p₃ = c .before .before .before .before .before .before .before .put-bytes .ensures in
-    let p₄ = c .before .before .put-bytes2 .ensures in
-    let w = behind (put (c .before .before .before .before .before .before .before .before .before .before .before .before .before .before .before .before .before .before .before .before .before .before .copy .ensures) start) (behind (put (p₁ .0) (p₁ .1)) (behind (put (p₂ .0) (p₂ .1)) (behind (put (p₃ .0) (p₃ .1)) (put (p₄ .0) (p₄ .1))))) in
-    let most : c .before .before .put-bytes2 .result ≤ mostInLine = omega (arith, p₁ .2, p₂ .2, p₃ .2, p₄ .2, s .pre) in
+    let p₁ = at-put-number .put-number .ensures in
+    let p₂ = at-put-number2 .put-number2 .ensures in
+    let p₃ = at-put-bytes .put-bytes .ensures in
+    let p₄ = at-put-bytes2 .put-bytes2 .ensures in
+    let w = behind (put (at-copy .copy .ensures) start) (behind (put (p₁ .0) (p₁ .1)) (behind (put (p₂ .0) (p₂ .1)) (behind (put (p₃ .0) (p₃ .1)) (put (p₄ .0) (p₄ .1))))) in
+    let most : at-put-bytes2 .put-bytes2 .result ≤ mostInLine = omega (arith, p₁ .2, p₂ .2, p₃ .2, p₄ .2, s .pre) in
     (w .memory (omega (arith, most, s .pre)), w .place ∙ zero-add _, most)
 
 pub put-labelled-spec : {M : Type 1} → statement M

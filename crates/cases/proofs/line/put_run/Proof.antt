@@ -34,10 +34,16 @@ in-use-requires : tie.Need-in-use-requires
 in-use-requires c κs = search needs
 
 array-share-prefix-response : tie.Need-array-share-prefix-response
-array-share-prefix-response c = answer-fits _ _ _ (c .before .before .before .before .before .before .before .before .run .ensures .0)
+array-share-prefix-response c =
+    let to-run = c .before .before .before .before .before .before in
+    let at-run = to-run .before .before in
+    answer-fits _ _ _ (at-run .run .ensures .0)
 
 slice-aggregate-put-labelled : tie.Need-slice-aggregate-put-labelled
-slice-aggregate-put-labelled c = sym (length-take-le _ _ (answer-fits _ _ _ (c .before .before .before .before .before .before .before .before .before .run .ensures .0)))
+slice-aggregate-put-labelled c =
+    let to-run = c .before .before .before .before .before .before in
+    let at-run = to-run .before .before .before in
+    sym (length-take-le _ _ (answer-fits _ _ _ (at-run .run .ensures .0)))
 
 slice-reshare-prefix-put-labelled : tie.Need-slice-reshare-prefix-put-labelled
 slice-reshare-prefix-put-labelled c = search needs
@@ -47,9 +53,12 @@ slice-aggregate-put-labelled-2 c = sym (length-take-le _ _ (c .before .before .b
 
 put-labelled-requires : tie.Need-put-labelled-requires
 put-labelled-requires c κs =
-    let h = answer-fits _ _ _ (c .before .before .before .before .before .before .before .before .before .before .run .ensures .0) in
-    let l = length-take-le (c .before .before .before .before .before .before .before .before .before .before .run .result .length) (c .before .before .before .before .before .before .before .before .before .before .run .last .1 .1 .1 .1 .0) h in
-    let k = length-take-le (c .before .before .before .in-use .result) (c .before .before .before .before .before .before .before .before .before .before .run .last .1 .1 .1 .1 .1 .1 .1 .0) (c .before .before .before .in-use .ensures .1) in
+    let at-in-use = c .before .before .before in
+    let to-run = at-in-use .before .before .before .before .before .before in
+    let at-run = to-run .before in
+    let h = answer-fits _ _ _ (at-run .run .ensures .0) in
+    let l = length-take-le (at-run .run .result .length) (at-run .run .last .1 .1 .1 .1 .0) h in
+    let k = length-take-le (at-in-use .in-use .result) (at-run .run .last .1 .1 .1 .1 .1 .1 .1 .0) (at-in-use .in-use .ensures .1) in
     (omega arith, omega arith, omega arith, omega arith)
 
 same-length : tie.Need-same-length
@@ -61,10 +70,17 @@ same-length-2 c = search needs
 returns : tie.Need-returns
 unfolding ranOn withJournal
 returns c =
-    let a = c .before .before .before .before .before .before .before .before .before .before .before .before .before .before .before .before .before .before .before .before .before .before .before .before .args in
-    let e = ran _ _ _ _ _ (c .before .before .before .before .before .before .before .before .before .before .before .before .before .before .before .before .before .before .before .worked-table .ensures .0) (c .before .before .before .before .before .before .before .before .before .before .before .before .before .before .before .before .before .before .worked-files .ensures .0) (c .before .before .before .before .before .before .before .before .before .before .before .before .before .run .ensures .0) in
-    let l = run-line (a .label .now) _ _ _ e (c .before .before .before .before .before .before .in-use .ensures .0) in
-    let p = c .before .before .put-labelled .ensures in
+    let at-put-labelled = c .before .before in
+    let at-in-use = at-put-labelled .before .before .before .before in
+    let to-run = at-in-use .before .before .before .before .before .before in
+    let at-run = to-run .before in
+    let at-worked-files = at-run .before .before .before .before .before in
+    let at-worked-table = at-worked-files .before in
+    let at-start = at-worked-table .before .before .before .before .before in
+    let a = at-start .args in
+    let e = ran _ _ _ _ _ (at-worked-table .worked-table .ensures .0) (at-worked-files .worked-files .ensures .0) (at-run .run .ensures .0) in
+    let l = run-line (a .label .now) _ _ _ e (at-in-use .in-use .ensures .0) in
+    let p = at-put-labelled .put-labelled .ensures in
     (p .0 ∙ ap (overwrite (a .out .now) 0) l, p .1 ∙ ap length l, p .2)
 
 pub put-run-spec : {M : Type 1} → statement M

@@ -35,31 +35,57 @@ few : (k : tie.After-count-size) → length (lengthBytes (2 + (k .count-size .re
 few k = length-few (2 + (k .count-size .result + length (k .before .before .before .args .rapdus .now)))
 
 copy-requires : tie.Need-copy-requires
-copy-requires c κs = omega (arith, few (c .before .before .before .before .before .before .before .before .before .before))
+copy-requires c κs =
+    let to-point = c .before .before .before .before .before .before in
+    let at-point = to-point .before .before .before .before in
+    omega (arith, few (at-point))
 
 add-put-count : tie.Need-add-put-count
-add-put-count c = omega (arith, few (c .before .before .before .before .before .before .before .before .before .before .before .before .before .before))
+add-put-count c =
+    let to-point = c .before .before .before .before .before .before in
+    let to-point′ = to-point .before .before .before .before .before .before in
+    let at-point = to-point′ .before .before in
+    omega (arith, few (at-point))
 
 put-count-requires : tie.Need-put-count-requires
-put-count-requires c κs = omega (arith, few (c .before .before .before .before .before .before .before .before .before .before .before .before .before .before))
+put-count-requires c κs =
+    let to-point = c .before .before .before .before .before .before in
+    let to-point′ = to-point .before .before .before .before .before .before in
+    let at-point = to-point′ .before .before in
+    omega (arith, few (at-point))
 
 copy-requires-2 : tie.Need-copy-requires-2
-copy-requires-2 c κs = omega (arith, few (c .before .before .before .before .before .before .before .before .before .before .before .before .before .before .before .before .before .before))
+copy-requires-2 c κs =
+    let to-point = c .before .before .before .before .before .before in
+    let to-point′ = to-point .before .before .before .before .before .before in
+    let at-point = to-point′ .before .before .before .before .before .before in
+    omega (arith, few (at-point))
 
 add-result : tie.Need-add-result
-add-result c = omega (arith, few (c .before .before .before .before .before .before .before .before .before .before .before .before .before .before .before .before .before .before .before .before .before))
+add-result c =
+    let to-point = c .before .before .before .before .before .before in
+    let to-point′ = to-point .before .before .before .before .before .before in
+    let to-point′′ = to-point′ .before .before .before .before .before .before in
+    let at-point = to-point′′ .before .before .before in
+    omega (arith, few (at-point))
 
 same-length : tie.Need-same-length
 same-length c = search needs
 
 returns : tie.Need-returns
 returns c =
-    let s = c .before .before .before .before .before .before .before .before .before .before .before .before .before .before .before .before .before .before .before .before .before .before .before .before in
-    let n = c .before .before .before .before .before .before .before .before .before .before .before .before .before .before .before .before .before .before .before .before .before .count-size in
-    let l = c .before .before .before .before .before .before .before .before .before .before .before .before .before .before .before .put-length in
-    let k = c .before .before .before .before .before .before .put-count in
+    let at-copy2 = c .before .before in
+    let at-put-count = at-copy2 .before .before .before .before in
+    let at-copy = at-put-count .before .before .before .before in
+    let at-put-length = at-copy .before .before .before .before .before in
+    let at-fill = at-put-length .before .before .before .before in
+    let at-count-size = at-fill .before .before in
+    let s = at-count-size .before .before .before in
+    let n = at-count-size .count-size in
+    let l = at-put-length .put-length in
+    let k = at-put-count .put-count in
     definite-written (s .args .response .now) (s .args .count) (s .args .rapdus .now) (s .pre .0) (s .pre .1) (n .ensures .0)
-    (c .before .before .before .before .before .before .before .before .before .before .before .before .before .before .before .before .before .before .before .fill .ensures) (l .ensures .0) (l .ensures .1) (c .before .before .before .before .before .before .before .before .before .before .copy .ensures) (k .ensures .0) (k .ensures .1) (c .before .before .copy2 .ensures)
+    (at-fill .fill .ensures) (l .ensures .0) (l .ensures .1) (at-copy .copy .ensures) (k .ensures .0) (k .ensures .1) (at-copy2 .copy2 .ensures)
 
 pub put-definite-spec : {M : Type 1} → statement M
 put-definite-spec =

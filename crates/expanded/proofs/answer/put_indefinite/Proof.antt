@@ -30,8 +30,11 @@ same-length c = search needs
 
 returns : tie.Need-returns
 returns c =
-    let s = c .before .before .before .before .before .before .before .before .before .before .before .before .before .before .before in
-    indefinite-written (s .args .response .now) (s .args .rapdus .now) (s .pre .0) (s .pre .1) (c .before .before .before .before .before .before .before .before .before .before .copy .ensures) (c .before .before .before .before .before .before .copy2 .ensures) (c .before .before .fill .ensures)
+    let at-fill = c .before .before in
+    let at-copy2 = at-fill .before .before .before .before in
+    let at-copy = at-copy2 .before .before .before .before in
+    let s = at-copy .before .before .before .before .before in
+    indefinite-written (s .args .response .now) (s .args .rapdus .now) (s .pre .0) (s .pre .1) (at-copy .copy .ensures) (at-copy2 .copy2 .ensures) (at-fill .fill .ensures)
 
 pub put-indefinite-spec : {M : Type 1} → statement M
 put-indefinite-spec =

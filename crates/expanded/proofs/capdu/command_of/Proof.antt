@@ -43,14 +43,30 @@ fifth-requires c κs = search needs
 fifth-requires-2 : tie.Need-fifth-requires-2
 fifth-requires-2 c κs = search needs
 
+-- the points of the walk, each from the one behind it
+abbrev at-wide3 : tie.After-fifth → tie.After-wide3
+at-wide3 c = c .before .before .before
+
+abbrev at-wide2 : tie.After-fifth → tie.After-wide2
+at-wide2 c = at-wide3 c .before .before
+
+abbrev at-wide : tie.After-fifth → tie.After-wide
+at-wide c = at-wide2 c .before .before
+
+abbrev at-case : tie.After-fifth → tie.After-case-by-size
+at-case c = at-wide c .before .before
+
+abbrev start : tie.After-fifth → tie.Start
+start c = at-case c .before .before
+
 -- the command, with its case and its bytes, wherever its data lie
-told : (c : tie.After-fifth) {from count : ℕ} → from ≡ pick (leb 3 (c .before .before .before .before .before .before .before .before .before .case-by-size .result)) 5 4 → count ≡ pick (leb 3 (c .before .before .before .before .before .before .before .before .before .case-by-size .result)) (byte (c .before .before .before .before .before .before .before .before .before .before .before .args .capdu .now) 4) 0 → Told (c .before .before .before .before .before .before .before .before .before .before .before .args .capdu .now) (read (c .before .before .before .before .before .before .before .before .before .case-by-size .result) (c .before .before .before .before .before .before .before .wide .result) (c .before .before .before .before .before .wide2 .result) (c .before .before .before .wide3 .result) (c .before .wide4 .result) (c .fifth .result) from count)
+told : (c : tie.After-fifth) {from count : ℕ}
+    → from ≡ pick (leb 3 (at-case c .case-by-size .result)) 5 4
+    → count ≡ pick (leb 3 (at-case c .case-by-size .result)) (byte (start c .args .capdu .now) 4) 0
+    → Told (start c .args .capdu .now) (read (at-case c .case-by-size .result) (at-wide c .wide .result) (at-wide2 c .wide2 .result) (at-wide3 c .wide3 .result) (c .before .wide4 .result) (c .fifth .result) from count)
 told c =
-    let w = c .before .before .before .before .before .before .before in
-    let n = w .before .before in
-    let k = n .before in
-    command-told (k .before .args .capdu .now) (λ i. k .shared-slice-known .given i .fits) (k .before .pre) (n .case-by-size .ensures .0)
-    (w .wide .ensures .0) (c .before .before .before .before .before .wide2 .ensures .0) (c .before .before .before .wide3 .ensures .0) (c .before .wide4 .ensures .0) (c .fifth .ensures .0)
+    command-told (start c .args .capdu .now) (λ i. at-case c .before .shared-slice-known .given i .fits) (start c .pre) (at-case c .case-by-size .ensures .0)
+    (at-wide c .wide .ensures .0) (at-wide2 c .wide2 .ensures .0) (at-wide3 c .wide3 .ensures .0) (c .before .wide4 .ensures .0) (c .fifth .ensures .0)
 
 returns : tie.Need-returns
 returns c = told (c .before .before) (le-yes _ _ _ (c .before .if1 .taken) refl) (le-yes _ _ _ (c .before .if1 .taken) (c .fifth2 .ensures .0))

@@ -21,8 +21,9 @@ same-length c = search needs
 returns : tie.Need-returns
 unfolding badFormat
 returns c =
-    let s = c .before .before .before .before .before .before .before in
-    let put = c .before .before .before .before .put-bad in
+    let at-put-bad = c .before .before .before .before in
+    let s = at-put-bad .before .before .before in
+    let put = at-put-bad .put-bad in
     (λ card. bad-last (s .args .before) card (s .args .out .now) (omega arith) (s .args .code) (omega arith) (put .ensures .0) (omega arith), omega arith)
 
 pub step-bad-spec : {M : Type 1} → statement M

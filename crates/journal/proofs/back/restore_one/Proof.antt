@@ -44,9 +44,11 @@ part-copy-end c = omega (arith, no-longer (c .before .before .before .before .be
 copy-requires : tie.Need-copy-requires
 unfolding memoryOf
 copy-requires c κs =
-    let s = c .before .before .before .before .before .before .before .before .before .before in
-    let e = c .before .before .before .before .before .before .tail-at .ensures .0 in
-    fits-back (s .args .journal .now) (s .args .u) e (whole s) (from-table (s .args .journal .now) (s .args .u) e (c .before .before .if1 .taken)) (s .pre .2)
+    let at-if1 = c .before .before in
+    let at-tail-at = at-if1 .before .before .before .before in
+    let s = at-tail-at .before .before .before .before in
+    let e = at-tail-at .tail-at .ensures .0 in
+    fits-back (s .args .journal .now) (s .args .u) e (whole s) (from-table (s .args .journal .now) (s .args .u) e (at-if1 .if1 .taken)) (s .pre .2)
 
 same-length : tie.Need-same-length
 same-length c = search needs
@@ -54,9 +56,12 @@ same-length c = search needs
 returns : tie.Need-returns
 unfolding memoryOf withMemory
 returns c =
-    let s = c .before .before .before .before .before .before .before .before .before .before .before .before .before in
-    let e = c .before .before .before .before .before .before .before .before .before .tail-at .ensures .0 in
-    given-back (s .args .journal .now) (s .args .u) e (whole s) (from-table (s .args .journal .now) (s .args .u) e (c .before .before .before .before .before .if1 .taken)) (c .before .before .copy .ensures)
+    let at-copy = c .before .before in
+    let at-if1 = at-copy .before .before .before in
+    let at-tail-at = at-if1 .before .before .before .before in
+    let s = at-tail-at .before .before .before .before in
+    let e = at-tail-at .tail-at .ensures .0 in
+    given-back (s .args .journal .now) (s .args .u) e (whole s) (from-table (s .args .journal .now) (s .args .u) e (at-if1 .if1 .taken)) (at-copy .copy .ensures)
 
 sub-copy-2 : tie.Need-sub-copy-2
 sub-copy-2 c = search needs
@@ -70,9 +75,11 @@ part-copy-end-2 c = omega (arith, no-longer (c .before .before .before .before .
 copy-requires-2 : tie.Need-copy-requires-2
 unfolding memoryOf
 copy-requires-2 c κs =
-    let s = c .before .before .before .before .before .before .before .before .before .before in
-    let e = c .before .before .before .before .before .before .tail-at .ensures .0 in
-    fits-back (s .args .journal .now) (s .args .u) e (whole s) (from-files (s .args .journal .now) (s .args .u) e (c .before .before .if1 .left)) (s .pre .2)
+    let at-if1 = c .before .before in
+    let at-tail-at = at-if1 .before .before .before .before in
+    let s = at-tail-at .before .before .before .before in
+    let e = at-tail-at .tail-at .ensures .0 in
+    fits-back (s .args .journal .now) (s .args .u) e (whole s) (from-files (s .args .journal .now) (s .args .u) e (at-if1 .if1 .left)) (s .pre .2)
 
 same-length-2 : tie.Need-same-length-2
 same-length-2 c = search needs
@@ -80,9 +87,12 @@ same-length-2 c = search needs
 returns-2 : tie.Need-returns-2
 unfolding memoryOf withMemory
 returns-2 c =
-    let s = c .before .before .before .before .before .before .before .before .before .before .before .before .before in
-    let e = c .before .before .before .before .before .before .before .before .before .tail-at .ensures .0 in
-    given-back (s .args .journal .now) (s .args .u) e (whole s) (from-files (s .args .journal .now) (s .args .u) e (c .before .before .before .before .before .if1 .left)) (c .before .before .copy2 .ensures)
+    let at-copy2 = c .before .before in
+    let at-if1 = at-copy2 .before .before .before in
+    let at-tail-at = at-if1 .before .before .before .before in
+    let s = at-tail-at .before .before .before .before in
+    let e = at-tail-at .tail-at .ensures .0 in
+    given-back (s .args .journal .now) (s .args .u) e (whole s) (from-files (s .args .journal .now) (s .args .u) e (at-if1 .if1 .left)) (at-copy2 .copy2 .ensures)
 
 pub restore-one-spec : {M : Type 1} → statement M
 restore-one-spec =

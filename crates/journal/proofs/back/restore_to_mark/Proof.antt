@@ -19,7 +19,10 @@ tail-at-requires : tie.Need-tail-at-requires Inv-loop μ-loop
 tail-at-requires c κs = let s = c .before .before .before .before in omega (arith, back-long (c .loop .inv) (s .pre .0))
 
 sub-result : tie.Need-sub-result Inv-loop μ-loop
-sub-result c = let s = c .before .before .before .before .before .before .before in back-long (c .before .before .before .loop .inv) (s .pre .0)
+sub-result c =
+    let at-loop = c .before .before .before in
+    let s = at-loop .before .before .before .before in
+    back-long (at-loop .loop .inv) (s .pre .0)
 
 same-length : tie.Need-same-length Inv-loop μ-loop
 same-length c = c .before .before .before .loop .inv .same-table
@@ -29,38 +32,52 @@ same-length-2 c = c .before .before .before .loop .inv .same-files
 
 returns : tie.Need-returns Inv-loop μ-loop
 returns c =
-    let s = c .before .before .before .before .before .before .before in
-    let g = c .before .before .before .loop .inv in
-    let k = rw (c .before .before .tail-at .ensures .0) at (c .if1 .taken) in
+    let at-tail-at = c .before .before in
+    let at-loop = at-tail-at .before in
+    let s = at-loop .before .before .before .before in
+    let g = at-loop .loop .inv in
+    let k = rw (at-tail-at .tail-at .ensures .0) at (c .if1 .taken) in
     (mark-card g (s .pre .0) k, mark-bytes g (s .pre .0) k, omega (arith, back-long g (s .pre .0)))
 
 restore-one-requires : tie.Need-restore-one-requires Inv-loop μ-loop
 restore-one-requires c κs =
-    let s = c .before .before .before .before .before .before .before .before .before in
-    let g = c .before .before .before .before .before .loop .inv in
-    (omega arith, back-readable g (s .pre .0), back-inside g (s .pre .0) (c .before .before .before .before .tail-at .ensures .0) (c .before .before .if1 .left))
+    let at-if1 = c .before .before in
+    let at-tail-at = at-if1 .before .before in
+    let at-loop = at-tail-at .before in
+    let s = at-loop .before .before .before .before in
+    let g = at-loop .loop .inv in
+    (omega arith, back-readable g (s .pre .0), back-inside g (s .pre .0) (at-tail-at .tail-at .ensures .0) (at-if1 .if1 .left))
 
 add-u : tie.Need-add-u Inv-loop μ-loop
 add-u c = search needs
 
 sub-u : tie.Need-sub-u Inv-loop μ-loop
 sub-u c =
-    let s = c .before .before .before .before .before .before .before .before .before .before .before .before .before .before .before in
-    let g = c .before .before .before .before .before .before .before .before .before .before .before .loop .inv in
-    readable-fits _ _ (c .before .before .before .before .before .before .before .before .before .before .tail-at .ensures .0) (back-readable g (s .pre .0))
+    let to-tail-at = c .before .before .before .before .before .before in
+    let at-tail-at = to-tail-at .before .before .before .before in
+    let at-loop = at-tail-at .before in
+    let s = at-loop .before .before .before .before in
+    let g = at-loop .loop .inv in
+    readable-fits _ _ (at-tail-at .tail-at .ensures .0) (back-readable g (s .pre .0))
 
 loop-less : tie.Need-loop-less Inv-loop μ-loop
 loop-less c =
-    let s = c .before .before .before .before .before .before .before .before .before .before .before .before .before .before .before in
-    let g = c .before .before .before .before .before .before .before .before .before .before .before .loop .inv in
+    let to-loop = c .before .before .before .before .before .before in
+    let at-loop = to-loop .before .before .before .before .before in
+    let s = at-loop .before .before .before .before in
+    let g = at-loop .loop .inv in
     omega (arith, back-long g (s .pre .0))
 
 loop-again : tie.Need-loop-again Inv-loop μ-loop
 loop-again c =
-    let s = c .before .before .before .before .before .before .before .before .before .before .before .before .before .before .before in
-    let g = c .before .before .before .before .before .before .before .before .before .before .before .loop .inv in
-    let r = c .before .before .before .before .before .restore-one in
-    back-goes-on g (s .pre .0) (c .before .before .before .before .before .before .before .before .before .before .tail-at .ensures .0) (c .before .before .before .before .before .before .before .before .if1 .left) (r .kept .0) (r .kept .1 .0) (r .ensures)
+    let at-restore-one = c .before .before .before .before .before in
+    let at-if1 = at-restore-one .before .before .before in
+    let at-tail-at = at-if1 .before .before in
+    let at-loop = at-tail-at .before in
+    let s = at-loop .before .before .before .before in
+    let g = at-loop .loop .inv in
+    let r = at-restore-one .restore-one in
+    back-goes-on g (s .pre .0) (at-tail-at .tail-at .ensures .0) (at-if1 .if1 .left) (r .kept .0) (r .kept .1 .0) (r .ensures)
 
 pub restore-to-mark-spec : {M : Type 1} → statement M
 restore-to-mark-spec =

@@ -28,7 +28,7 @@ abbrev from-restore : tie.After-restore-to-mark → tie.After-head-of
 from-restore k = k .before .before .before .before
 
 abbrev from-put-head : tie.After-put-head → tie.After-restore-to-mark
-from-put-head k = k .before .before .before .before .before .before .before
+from-put-head k = let to-restore = k .before .before .before in to-restore .before .before .before .before
 
 head-of-requires : tie.Need-head-of-requires
 head-of-requires c κs = long (c .before .before .before .before)

@@ -46,9 +46,12 @@ tail-formed-requires c κs = search needs
 returns-3 : tie.Need-returns-3
 unfolding tailBytes
 returns-3 c =
-    let a = c .before .before .before .before .before .before .before .args in
+    let at-if2 = c .before .before in
+    let at-tail-at = at-if2 .before .before in
+    let at-start = at-tail-at .before .before .before in
+    let a = at-start .args in
     c .tail-formed .ensures
-    ∙ rw add-sub-cancel-left (readable-by-form (a .journal .now) (a .u) (rw (c .before .before .before .before .tail-at .ensures .0) at (c .before .before .if2 .left)))
+    ∙ rw add-sub-cancel-left (readable-by-form (a .journal .now) (a .u) (rw (at-tail-at .tail-at .ensures .0) at (at-if2 .if2 .left)))
 
 pub is-readable-spec : {M : Type 1} → statement M
 is-readable-spec =

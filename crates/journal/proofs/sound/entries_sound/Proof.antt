@@ -39,15 +39,21 @@ entry-sound-requires c κs = (omega arith, can-read c)
 
 returns-2 : tie.Need-returns-2 Inv-loop μ-loop
 returns-2 c =
-    let a = c .before .before .before .before .before .before .before .before .args in
-    let l = c .before .before .before .before .before .loop in
-    sound-fails (a .table .now) (a .files) (a .scripts) (a .journal .now) (l .u) (l .marks) (l .oldest) (l .inv .1) (can-read (c .before .before)) (told-false (c .before .entry-sound .ensures) (c .if2 .taken))
+    let at-point = c .before .before in
+    let at-loop = at-point .before .before .before in
+    let at-start = at-loop .before .before .before in
+    let a = at-start .args in
+    let l = at-loop .loop in
+    sound-fails (a .table .now) (a .files) (a .scripts) (a .journal .now) (l .u) (l .marks) (l .oldest) (l .inv .1) (can-read (at-point)) (told-false (c .before .entry-sound .ensures) (c .if2 .taken))
 
 tail-at-requires : tie.Need-tail-at-requires Inv-loop μ-loop
 tail-at-requires c κs =
-    let a = c .before .before .before .before .before .before .before .before .args in
-    let u = c .before .before .before .before .before .loop .u in
-    omega (arith, readable-fits (a .journal .now) u refl (can-read (c .before .before)))
+    let at-point = c .before .before in
+    let at-loop = at-point .before .before .before in
+    let at-start = at-loop .before .before .before in
+    let a = at-start .args in
+    let u = at-loop .loop .u in
+    omega (arith, readable-fits (a .journal .now) u refl (can-read (at-point)))
 
 one-if-mark-requires : tie.Need-one-if-mark-requires Inv-loop μ-loop
 one-if-mark-requires c κs = tt
@@ -66,11 +72,17 @@ loop-less c = search needs
 
 loop-again : tie.Need-loop-again Inv-loop μ-loop
 loop-again c =
-    let a = c .before .before .before .before .before .before .before .before .before .before .before .before .args in
-    let l = c .before .before .before .before .before .before .before .before .before .loop in
-    let h = can-read (c .before .before .before .before .before .before) in (
-      omega (arith, readable-fits (a .journal .now) (l .u) (c .before .before .before .tail-at .ensures .0) h),
-      sound-goes-on (a .table .now) (a .files) (a .scripts) (a .journal .now) (l .u) (l .marks) (l .oldest) (l .inv .1) h (told-true (c .before .before .before .before .before .entry-sound .ensures) (c .before .before .before .before .if2 .left)) (c .before .before .before .tail-at .ensures .0) (c .before .one-if-mark .ensures .0),
+    let at-tail-at = c .before .before .before in
+    let at-if2 = at-tail-at .before in
+    let at-entry-sound = at-if2 .before in
+    let at-point = at-entry-sound .before in
+    let at-loop = at-point .before .before .before in
+    let at-start = at-loop .before .before .before in
+    let a = at-start .args in
+    let l = at-loop .loop in
+    let h = can-read (at-point) in (
+      omega (arith, readable-fits (a .journal .now) (l .u) (at-tail-at .tail-at .ensures .0) h),
+      sound-goes-on (a .table .now) (a .files) (a .scripts) (a .journal .now) (l .u) (l .marks) (l .oldest) (l .inv .1) h (told-true (at-entry-sound .entry-sound .ensures) (at-if2 .if2 .left)) (at-tail-at .tail-at .ensures .0) (c .before .one-if-mark .ensures .0),
     )
 
 returns-3 : tie.Need-returns-3 Inv-loop μ-loop

@@ -38,9 +38,11 @@ form-sound-requires-2 c κs = search needs
 
 returns-2 : tie.Need-returns-2
 returns-2 c =
-    let s = c .before .before .before .before .before .before .before in
-    let l = c .before .before .before .before .tail-at in
-    entry-first (s .args .table .now) (s .args .files) (s .args .journal .now) (s .args .u) (l .ensures .0) (s .pre .0) (s .pre .1) (omega (arith, c .before .before .before .if1 .left)) (c .before .wide .ensures .0) (c .form-sound2 .ensures)
+    let at-if1 = c .before .before .before in
+    let at-tail-at = at-if1 .before in
+    let s = at-tail-at .before .before .before in
+    let l = at-tail-at .tail-at in
+    entry-first (s .args .table .now) (s .args .files) (s .args .journal .now) (s .args .u) (l .ensures .0) (s .pre .0) (s .pre .1) (omega (arith, at-if1 .if1 .left)) (c .before .wide .ensures .0) (c .form-sound2 .ensures)
 
 pub entry-sound-spec : {M : Type 1} → statement M
 entry-sound-spec =

@@ -51,21 +51,27 @@ module _ (t : ℕ) where
 
   slice-write-out-2 : put-decimal-lts.Need-slice-write-out-2 claims at put-decimal.Post
   slice-write-out-2 c =
-      let a = c .before .before .before .before .before .before .before .args in
-      omega (arith, place-most (a .out .now) (a .at) (a .n / 10) 18 (omega arith) (c .before .before .before .put-decimal .ensures))
+      let at-put-decimal = c .before .before .before in
+      let at-start = at-put-decimal .before .before .before .before in
+      let a = at-start .args in
+      omega (arith, place-most (a .out .now) (a .at) (a .n / 10) 18 (omega arith) (at-put-decimal .put-decimal .ensures))
 
   add-result-2 : put-decimal-lts.Need-add-result-2 claims at put-decimal.Post
   add-result-2 c =
-      let a = c .before .before .before .before .before .before .before .args in
-      omega (arith, place-most (a .out .now) (a .at) (a .n / 10) 18 (omega arith) (c .before .before .before .put-decimal .ensures))
+      let at-put-decimal = c .before .before .before in
+      let at-start = at-put-decimal .before .before .before .before in
+      let a = at-start .args in
+      omega (arith, place-most (a .out .now) (a .at) (a .n / 10) 18 (omega arith) (at-put-decimal .put-decimal .ensures))
 
   same-length-2 : put-decimal-lts.Need-same-length-2 claims at put-decimal.Post
   same-length-2 c = simp length-set (omega arith)
 
   returns-2 : put-decimal-lts.Need-returns-2 claims at put-decimal.Post
   returns-2 c =
-      let a = c .before .before .before .before .before .before .before .args in
-      put-more (a .out .now) (a .at) (a .n) _ (omega arith) (c .sign2 .ensures) (omega arith) (omega arith) (c .before .before .before .put-decimal .ensures)
+      let at-put-decimal = c .before .before .before in
+      let at-start = at-put-decimal .before .before .before .before in
+      let a = at-start .args in
+      put-more (a .out .now) (a .at) (a .n) _ (omega arith) (c .sign2 .ensures) (omega arith) (omega arith) (at-put-decimal .put-decimal .ensures)
 
 pub +put-decimal-spec : {M : Type 1} → statement M
 +put-decimal-spec =

@@ -52,8 +52,10 @@ loop-less c = search needs
 
 loop-again : tie.Need-loop-again Inv-loop μ-loop
 loop-again c =
-    let ds = c .before .before .before .before .before .before .before .args .digits .now in
-    let l = c .before .before .before .before .loop in
+    let at-loop = c .before .before .before .before in
+    let at-start = at-loop .before .before .before in
+    let ds = at-start .args .digits .now in
+    let l = at-loop .loop in
     (omega arith, simp length-set (omega arith), pair-rest ds (l .i) (omega arith) (l .inv .2), bytes-goes-on ds (l .out) (l .i) (c .pair .ensures) (omega arith) (omega arith) ∙ l .inv .3)
 
 same-length : tie.Need-same-length Inv-loop μ-loop

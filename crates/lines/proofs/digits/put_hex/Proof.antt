@@ -61,9 +61,11 @@ loop-less c = search needs
 
 loop-again : tie.Need-loop-again Inv-loop μ-loop
 loop-again c =
-    let s = c .before .before .before .before .before .before .before .before in
-    let l = c .before .before .before .before .before .loop in
-    let w = c .before .before .wide in
+    let at-wide = c .before .before in
+    let at-loop = at-wide .before .before .before in
+    let s = at-loop .before .before .before in
+    let l = at-loop .loop in
+    let w = at-wide .wide in
     (omega arith, simp length-set (omega arith), signs-goes-on (s .args .bytes .now) (l .out) (s .args .at) (l .i) (c .before .sign .ensures ∙ ap (λ (b : ℕ). sign (b / 16)) (w .ensures .0)) (c .sign2 .ensures ∙ ap (λ (b : ℕ). sign (b % 16)) (w .ensures .0)) (omega arith) (omega arith) ∙ l .inv .2)
 
 same-length : tie.Need-same-length Inv-loop μ-loop

@@ -35,9 +35,12 @@ same-length c = simp length-set (omega arith)
 
 returns : tie.Need-returns
 returns c =
-    let a = c .before .before .before .before .before .before .before .before .before .before .before .args in
+    let at-put-hex = c .before .before in
+    let at-copy = at-put-hex .before .before .before .before in
+    let at-start = at-copy .before .before .before .before .before in
+    let a = at-start .args in
     let l = hex-length (a .bytes .now) in
-    let w = named-put {r = a .at + length (a .name .now) + 2 * length (a .bytes .now)} (a .last) (put (c .before .before .before .before .before .before .copy .ensures) refl) (put (c .before .before .put-hex .ensures) (omega arith)) in
+    let w = named-put {r = a .at + length (a .name .now) + 2 * length (a .bytes .now)} (a .last) (put (at-copy .copy .ensures) refl) (put (at-put-hex .put-hex .ensures) (omega arith)) in
     (w .memory (omega arith), w .place, refl)
 
 pub put-bytes-spec : {M : Type 1} → statement M

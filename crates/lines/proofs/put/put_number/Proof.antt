@@ -21,13 +21,19 @@ put-decimal-requires c κs = search needs
 
 slice-write-out : tie.Need-slice-write-out
 slice-write-out c =
-    let a = c .before .before .before .before .before .before .before .before .before .before .args in
-    omega (arith, place-most _ (a .at + length (a .name .now)) (a .n) 19 (omega arith) (c .before .before .put-decimal .ensures))
+    let at-put-decimal = c .before .before in
+    let to-start = at-put-decimal .before .before .before .before .before .before in
+    let at-start = to-start .before .before in
+    let a = at-start .args in
+    omega (arith, place-most _ (a .at + length (a .name .now)) (a .n) 19 (omega arith) (at-put-decimal .put-decimal .ensures))
 
 add-result : tie.Need-add-result
 add-result c =
-    let a = c .before .before .before .before .before .before .before .before .before .before .args in
-    omega (arith, place-most _ (a .at + length (a .name .now)) (a .n) 19 (omega arith) (c .before .before .put-decimal .ensures))
+    let at-put-decimal = c .before .before in
+    let to-start = at-put-decimal .before .before .before .before .before .before in
+    let at-start = to-start .before .before in
+    let a = at-start .args in
+    omega (arith, place-most _ (a .at + length (a .name .now)) (a .n) 19 (omega arith) (at-put-decimal .put-decimal .ensures))
 
 same-length : tie.Need-same-length
 same-length c = simp length-set (omega arith)
@@ -35,11 +41,14 @@ same-length c = simp length-set (omega arith)
 returns : tie.Need-returns
 unfolding decimal
 returns c =
-    let a = c .before .before .before .before .before .before .before .before .before .before .args in
-    let p = c .before .before .put-decimal .ensures in
+    let at-put-decimal = c .before .before in
+    let at-copy = at-put-decimal .before .before .before .before in
+    let at-start = at-copy .before .before .before .before in
+    let a = at-start .args in
+    let p = at-put-decimal .put-decimal .ensures in
     let d = p (a .n + 1) (omega arith) in
     let l = place-most _ (a .at + length (a .name .now)) (a .n) 19 (omega arith) p in
-    let w = named-put (a .last) (put (c .before .before .before .before .before .before .copy .ensures) refl) (put (d .0) (d .1)) in
+    let w = named-put (a .last) (put (at-copy .copy .ensures) refl) (put (d .0) (d .1)) in
     (w .memory (omega arith), w .place, omega arith)
 
 pub put-number-spec : {M : Type 1} → statement M

@@ -34,7 +34,7 @@ same-length c = search needs
 -- what is found, as the code names it and as the definition does
 module _ (c : tie.After-search) where
   abbrev start : tie.Start
-  start = c .before .before .before .before .before .before .before
+  start = let at-record-of = c .before .before .before in at-record-of .before .before .before .before
 
   abbrev found : List ℕ
   found =

@@ -34,7 +34,12 @@ loop-less : tie.Need-loop-less Inv-loop μ-loop
 loop-less c = omega arith
 
 loop-again : tie.Need-loop-again Inv-loop μ-loop
-loop-again c = goes-on _ _ _ _ _ _ _ _ _ _ (c .before .before .before .before .before .before .before .loop .inv) _ _ _ _ (c .before .before .before .before .before .before .loop-test .taken) (c .before .before .before .before .before .record-contains .ensures) (c .before .before .before .note .ensures .0) (c .before .before .before .note .ensures .1) (c .next-searched .ensures)
+loop-again c =
+    let at-note = c .before .before .before in
+    let at-record-contains = at-note .before .before in
+    let at-loop-test = at-record-contains .before in
+    let at-loop = at-loop-test .before in
+    goes-on _ _ _ _ _ _ _ _ _ _ (at-loop .loop .inv) _ _ _ _ (at-loop-test .loop-test .taken) (at-record-contains .record-contains .ensures) (at-note .note .ensures .0) (at-note .note .ensures .1) (c .next-searched .ensures)
 
 same-length : tie.Need-same-length Inv-loop μ-loop
 same-length c = c .before .loop .inv .same

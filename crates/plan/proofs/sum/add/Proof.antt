@@ -47,7 +47,10 @@ loop-less : tie.Need-loop-less Inv-loop μ-loop
 loop-less c = omega arith
 
 loop-again : tie.Need-loop-again Inv-loop μ-loop
-loop-again c = goes-on _ _ _ (c .before .before .before .before .before .before .before .pre .1) _ _ _ (c .before .before .before .loop .inv) _ _ (omega arith) (c .before .from-right .ensures .0) (c .from-right2 .ensures .0) (c .before .from-right .ensures .1) (c .from-right2 .ensures .1)
+loop-again c =
+    let at-loop = c .before .before .before in
+    let at-start = at-loop .before .before .before .before in
+    goes-on _ _ _ (at-start .pre .1) _ _ _ (at-loop .loop .inv) _ _ (omega arith) (c .before .from-right .ensures .0) (c .from-right2 .ensures .0) (c .before .from-right .ensures .1) (c .from-right2 .ensures .1)
 
 same-length : tie.Need-same-length Inv-loop μ-loop
 same-length c = c .before .loop .inv .same

@@ -43,8 +43,12 @@ cast-t20 c = search needs
 returns : tie.Need-returns
 unfolding fcp83 fcp8A bytes2
 returns c =
-    let p = c .before .before .before .before .before .before .before .before .before .pre in
-    rw (c .before .before .before .before .before .before .before .record-descriptor .ensures, c .before .before .before .before .before .before .before .before .record-count .ensures .0) (records-fcp _ (p .0) (p .1))
+    let to-record-descriptor = c .before .before .before .before .before .before in
+    let at-record-descriptor = to-record-descriptor .before in
+    let at-record-count = at-record-descriptor .before in
+    let at-start = at-record-count .before in
+    let p = at-start .pre in
+    rw (at-record-descriptor .record-descriptor .ensures, at-record-count .record-count .ensures .0) (records-fcp _ (p .0) (p .1))
 
 pub of-records-spec : {M : Type 1} → statement M
 of-records-spec =

@@ -47,15 +47,22 @@ row-at-requires c κs = search needs
 
 above-requires : tie.Need-above-requires
 above-requires c κs =
-    let p = c .before .before .before .before .before .before .before .before .before .pre in
+    let to-start = c .before .before .before .before .before .before in
+    let at-start = to-start .before .before .before in
+    let p = at-start .pre in
     rw (c .row-at .ensures .0) (p .2 _ (p .1))
 
 returns-4 : tie.Need-returns-4
 unfolding byIdentifier child
 returns-4 c =
-    or-second (sym (c .before .before .before .before .before .before .before .before .if-named .ensures) ∙ c .before .before .before .before .before .before .enum-told .given .1)
-    (or-second (sym (c .before .before .before .before .before .child .ensures) ∙ c .before .before .before .enum-told2 .given .1)
-    (eq-no _ _ _ (c .before .before .if1 .left) (rw (c .before .row-at .ensures .0) at (c .above .ensures))))
+    let at-if1 = c .before .before in
+    let at-enum-told2 = at-if1 .before in
+    let at-child = at-enum-told2 .before .before in
+    let at-enum-told = at-child .before in
+    let at-if-named = at-enum-told .before .before in
+    or-second (sym (at-if-named .if-named .ensures) ∙ at-enum-told .enum-told .given .1)
+    (or-second (sym (at-child .child .ensures) ∙ at-enum-told2 .enum-told2 .given .1)
+    (eq-no _ _ _ (at-if1 .if1 .left) (rw (c .before .row-at .ensures .0) at (c .above .ensures))))
 
 pub by-identifier-spec : {M : Type 1} → statement M
 by-identifier-spec =

@@ -37,10 +37,15 @@ enum-told c = search needs
 returns : tie.Need-returns Inv-loop μ-loop
 unfolding child
 returns c =
-    let a = c .before .before .before .before .before .before .before .before .args in
-    let l = c .before .before .before .before .before .loop in
-    path-fails (a .table .now) (l .e) (a .path .now) (l .i) (l .inv .1) (c .before .before .before .before .loop-test .taken)
-    (rw (c .before .before .before .num-at .ensures .0) at (sym (c .before .before .child .ensures) ∙ c .enum-told .given .1))
+    let at-child = c .before .before in
+    let at-num-at = at-child .before in
+    let at-loop-test = at-num-at .before in
+    let at-loop = at-loop-test .before in
+    let at-start = at-loop .before .before .before in
+    let a = at-start .args in
+    let l = at-loop .loop in
+    path-fails (a .table .now) (l .e) (a .path .now) (l .i) (l .inv .1) (at-loop-test .loop-test .taken)
+    (rw (at-num-at .num-at .ensures .0) at (sym (at-child .child .ensures) ∙ c .enum-told .given .1))
 
 add-i : tie.Need-add-i Inv-loop μ-loop
 add-i c = omega arith
@@ -51,11 +56,16 @@ loop-less c = search needs
 loop-again : tie.Need-loop-again Inv-loop μ-loop
 unfolding child
 loop-again c =
-    let a = c .before .before .before .before .before .before .before .before .before .args in
-    let l = c .before .before .before .before .before .before .loop in (
+    let at-child = c .before .before .before in
+    let at-num-at = at-child .before in
+    let at-loop-test = at-num-at .before in
+    let at-loop = at-loop-test .before in
+    let at-start = at-loop .before .before .before in
+    let a = at-start .args in
+    let l = at-loop .loop in (
       omega arith,
-      path-goes-on (a .table .now) (l .e) (a .path .now) (l .i) (l .inv .1) (c .before .before .before .before .before .loop-test .taken) _
-          (rw (c .before .before .before .before .num-at .ensures .0) at (sym (c .before .before .before .child .ensures) ∙ c .before .c .given .1)),
+      path-goes-on (a .table .now) (l .e) (a .path .now) (l .i) (l .inv .1) (at-loop-test .loop-test .taken) _
+          (rw (at-num-at .num-at .ensures .0) at (sym (at-child .child .ensures) ∙ c .before .c .given .1)),
     )
 
 returns-2 : tie.Need-returns-2 Inv-loop μ-loop

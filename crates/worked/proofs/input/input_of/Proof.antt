@@ -38,7 +38,11 @@ enum-told-2 c = search needs
 
 returns-2 : tie.Need-returns-2
 unfolding inputOf then runOf InputFits ascii
-returns-2 c = (rw (sym (c .before .before .before .before .before .before .before .number-at .ensures .0) ∙ c .before .before .before .before .before .application .given .1, sym (c .before .before .number-at2 .ensures .0) ∙ c .enum-told2 .given .1), tt)
+returns-2 c =
+    let at-number-at2 = c .before .before in
+    let at-application = at-number-at2 .before .before .before in
+    let at-number-at = at-application .before .before in
+    (rw (sym (at-number-at .number-at .ensures .0) ∙ at-application .application .given .1, sym (at-number-at2 .number-at2 .ensures .0) ∙ c .enum-told2 .given .1), tt)
 
 slice-aggregate-number-at-3 : tie.Need-slice-aggregate-number-at-3
 slice-aggregate-number-at-3 c = search needs
@@ -54,7 +58,13 @@ enum-told-3 c = search needs
 
 returns-3 : tie.Need-returns-3
 unfolding inputOf then runOf InputFits ascii
-returns-3 c = (rw (sym (c .before .before .before .before .before .before .before .before .before .before .before .before .number-at .ensures .0) ∙ c .before .before .before .before .before .before .before .before .before .before .application .given .1, sym (c .before .before .before .before .before .before .before .number-at2 .ensures .0) ∙ c .before .before .before .before .before .domain .given .1, sym (c .before .before .number-at3 .ensures .0) ∙ c .enum-told3 .given .1), tt)
+returns-3 c =
+    let at-number-at3 = c .before .before in
+    let at-domain = at-number-at3 .before .before .before in
+    let at-number-at2 = at-domain .before .before in
+    let at-application = at-number-at2 .before .before .before in
+    let at-number-at = at-application .before .before in
+    (rw (sym (at-number-at .number-at .ensures .0) ∙ at-application .application .given .1, sym (at-number-at2 .number-at2 .ensures .0) ∙ at-domain .domain .given .1, sym (at-number-at3 .number-at3 .ensures .0) ∙ c .enum-told3 .given .1), tt)
 
 script-at-requires : tie.Need-script-at-requires
 script-at-requires c κs = search needs
@@ -67,17 +77,40 @@ enum-told-4 c = search needs
 
 returns-4 : tie.Need-returns-4
 unfolding inputOf then runOf InputFits ascii
-returns-4 c = (rw (sym (c .before .before .before .before .before .before .before .before .before .before .before .before .before .before .before .before .number-at .ensures .0) ∙ c .before .before .before .before .before .before .before .before .before .before .before .before .before .before .application .given .1, sym (c .before .before .before .before .before .before .before .before .before .before .before .number-at2 .ensures .0) ∙ c .before .before .before .before .before .before .before .before .before .domain .given .1, sym (c .before .before .before .before .before .before .number-at3 .ensures .0) ∙ c .before .before .before .before .format .given .1, sym (c .before .before .script-at .ensures .0) ∙ c .enum-told4 .given .1), tt)
+returns-4 c =
+    let at-script-at = c .before .before in
+    let at-format = at-script-at .before .before in
+    let at-number-at3 = at-format .before .before in
+    let at-domain = at-number-at3 .before .before .before in
+    let at-number-at2 = at-domain .before .before in
+    let at-application = at-number-at2 .before .before .before in
+    let at-number-at = at-application .before .before in
+    (rw (sym (at-number-at .number-at .ensures .0) ∙ at-application .application .given .1, sym (at-number-at2 .number-at2 .ensures .0) ∙ at-domain .domain .given .1, sym (at-number-at3 .number-at3 .ensures .0) ∙ at-format .format .given .1, sym (at-script-at .script-at .ensures .0) ∙ c .enum-told4 .given .1), tt)
 
 cast-t23 : tie.Need-cast-t23
-cast-t23 c = omega (arith, field-small _ _ _ _ (c .before .before .before .before .before .before .before .before .before .before .domain .given .1) (c .before .before .before .before .before .before .before .before .before .before .before .before .number-at2 .ensures .1))
+cast-t23 c =
+    let to-domain = c .before .before .before .before .before .before in
+    let at-domain = to-domain .before .before .before .before in
+    let at-number-at2 = at-domain .before .before in
+    omega (arith, field-small _ _ _ _ (at-domain .domain .given .1) (at-number-at2 .number-at2 .ensures .1))
 
 cast-t24 : tie.Need-cast-t24
-cast-t24 c = omega (arith, field-small _ _ _ _ (c .before .before .before .before .before .format .given .1) (c .before .before .before .before .before .before .before .number-at3 .ensures .1))
+cast-t24 c =
+    let at-format = c .before .before .before .before .before in
+    let at-number-at3 = at-format .before .before in
+    omega (arith, field-small _ _ _ _ (at-format .format .given .1) (at-number-at3 .number-at3 .ensures .1))
 
 returns-5 : tie.Need-returns-5
 unfolding inputOf then runOf InputFits ScriptFits ascii
-returns-5 c = (rw (sym (c .before .before .before .before .before .before .before .before .before .before .before .before .before .before .before .before .before .number-at .ensures .0) ∙ c .before .before .before .before .before .before .before .before .before .before .before .before .before .before .before .application .given .1, sym (c .before .before .before .before .before .before .before .before .before .before .before .before .number-at2 .ensures .0) ∙ c .before .before .before .before .before .before .before .before .before .before .domain .given .1, sym (c .before .before .before .before .before .before .before .number-at3 .ensures .0) ∙ c .before .before .before .before .before .format .given .1, sym (c .before .before .before .script-at .ensures .0) ∙ c .before .from .given .1), rw (c .before .from .given .1) at (c .before .before .before .script-at .ensures .1))
+returns-5 c =
+    let at-script-at = c .before .before .before in
+    let at-format = at-script-at .before .before in
+    let at-number-at3 = at-format .before .before in
+    let at-domain = at-number-at3 .before .before .before in
+    let at-number-at2 = at-domain .before .before in
+    let at-application = at-number-at2 .before .before .before in
+    let at-number-at = at-application .before .before in
+    (rw (sym (at-number-at .number-at .ensures .0) ∙ at-application .application .given .1, sym (at-number-at2 .number-at2 .ensures .0) ∙ at-domain .domain .given .1, sym (at-number-at3 .number-at3 .ensures .0) ∙ at-format .format .given .1, sym (at-script-at .script-at .ensures .0) ∙ c .before .from .given .1), rw (c .before .from .given .1) at (at-script-at .script-at .ensures .1))
 
 pub input-of-spec : {M : Type 1} → statement M
 input-of-spec =

@@ -44,8 +44,10 @@ line-end-requires c κs = search needs
 returns-4 : tie.Need-returns-4
 unfolding LineFits
 returns-4 c =
-    let a = c .before .before .before .before .before .before .before .args in
-    let f = c .before .before .starts-at in
+    let at-starts-at = c .before .before in
+    let at-start = at-starts-at .before .before .before .before .before in
+    let a = at-start .args in
+    let f = at-starts-at .starts-at in
     (ap (Value (a .at + length (a .name .now))) (c .line-end .ensures .0) ∙ line-named _ _ _ (told-true (f .ensures) (c .before .if3 .left)), (c .line-end .ensures .1, c .line-end .ensures .2))
 
 pub line-at-spec : {M : Type 1} → statement M

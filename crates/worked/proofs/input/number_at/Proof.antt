@@ -61,20 +61,35 @@ enum-told-2 c = search needs
 
 returns-4 : tie.Need-returns-4
 unfolding before FieldFits
-returns-4 c = (number-read _ _ _ _ _ _ _ _ (sym (c .before .before .before .before .before .before .before .before .before .line-at .ensures .0) ∙ c .before .before .before .before .before .before .before .from .given .1) (c .before .before .before .before .before .if1 .left) (c .before .before .before .before .if2 .left) (sym (c .enum-told2 .given .1) ∙ c .before .before .number-of .ensures .0), tt)
+returns-4 c =
+    let at-number-of = c .before .before in
+    let at-if2 = at-number-of .before .before in
+    let at-if1 = at-if2 .before in
+    let at-from = at-if1 .before .before in
+    let at-line-at = at-from .before .before in
+    (number-read _ _ _ _ _ _ _ _ (sym (at-line-at .line-at .ensures .0) ∙ at-from .from .given .1) (at-if1 .if1 .left) (at-if2 .if2 .left) (sym (c .enum-told2 .given .1) ∙ at-number-of .number-of .ensures .0), tt)
 
 add-t11 : tie.Need-add-t11
 add-t11 c =
-    let h = line-lies _ _ _ (c .before .before .before .before .before .before .before .before .from .given .1) (c .before .before .before .before .before .before .before .before .before .before .line-at .ensures .1) in
+    let to-from = c .before .before .before .before .before .before in
+    let at-from = to-from .before .before in
+    let at-line-at = at-from .before .before in
+    let h = line-lies _ _ _ (at-from .from .given .1) (at-line-at .line-at .ensures .1) in
     omega arith
 
 returns-5 : tie.Need-returns-5
 unfolding before FieldFits NumberFits
 returns-5 c =
-    let a = c .before .before .before .before .before .before .before .before .before .before .before .before .before .args in
-    let h = line-lies _ _ _ (c .before .before .before .before .before .before .before .before .from .given .1) (c .before .before .before .before .before .before .before .before .before .before .line-at .ensures .1) in
-    let small = rw (c .before .n .given .1) at (c .before .before .before .number-of .ensures .1) in
-    (number-read _ _ _ _ _ _ _ _ (sym (c .before .before .before .before .before .before .before .before .before .before .line-at .ensures .0) ∙ c .before .before .before .before .before .before .before .before .from .given .1) (c .before .before .before .before .before .before .if1 .left) (c .before .before .before .before .before .if2 .left) (sym (c .before .n .given .1) ∙ c .before .before .before .number-of .ensures .0), (few-digits (a .input .now) _ _ (a .base) (a .most) _ (h .0) (h .1) (c .before .before .before .before .before .if2 .left) (omega arith) small, omega arith))
+    let at-number-of = c .before .before .before in
+    let at-if2 = at-number-of .before .before in
+    let at-if1 = at-if2 .before in
+    let at-from = at-if1 .before .before in
+    let at-line-at = at-from .before .before in
+    let at-start = at-line-at .before .before .before in
+    let a = at-start .args in
+    let h = line-lies _ _ _ (at-from .from .given .1) (at-line-at .line-at .ensures .1) in
+    let small = rw (c .before .n .given .1) at (at-number-of .number-of .ensures .1) in
+    (number-read _ _ _ _ _ _ _ _ (sym (at-line-at .line-at .ensures .0) ∙ at-from .from .given .1) (at-if1 .if1 .left) (at-if2 .if2 .left) (sym (c .before .n .given .1) ∙ at-number-of .number-of .ensures .0), (few-digits (a .input .now) _ _ (a .base) (a .most) _ (h .0) (h .1) (at-if2 .if2 .left) (omega arith) small, omega arith))
 
 pub number-at-spec : {M : Type 1} → statement M
 number-at-spec =

@@ -51,15 +51,21 @@ is-script-requires c κs = search needs
 returns-3 : tie.Need-returns-3
 unfolding ScriptFits ascii pick
 returns-3 c =
-    let h = line-lies _ _ _ (c .before .before .before .before .before .from .given .1) (c .before .before .before .before .before .before .before .line-at .ensures .1) in
+    let at-if1 = c .before .before .before in
+    let at-from = at-if1 .before .before in
+    let at-line-at = at-from .before .before in
+    let h = line-lies _ _ _ (at-from .from .given .1) (at-line-at .line-at .ensures .1) in
     let f = c .before .is-script in
-    (script-read _ _ _ _ (sym (c .before .before .before .before .before .before .before .line-at .ensures .0) ∙ c .before .before .before .before .before .from .given .1) (c .before .before .before .if1 .left) (sym (c .if2 .taken) ∙ f .ensures), (h .0, h .1, sym (f .ensures) ∙ c .if2 .taken))
+    (script-read _ _ _ _ (sym (at-line-at .line-at .ensures .0) ∙ at-from .from .given .1) (at-if1 .if1 .left) (sym (c .if2 .taken) ∙ f .ensures), (h .0, h .1, sym (f .ensures) ∙ c .if2 .taken))
 
 returns-4 : tie.Need-returns-4
 unfolding ScriptFits ascii pick
 returns-4 c =
+    let at-if1 = c .before .before .before in
+    let at-from = at-if1 .before .before in
+    let at-line-at = at-from .before .before in
     let f = c .before .is-script in
-    (script-read _ _ _ _ (sym (c .before .before .before .before .before .before .before .line-at .ensures .0) ∙ c .before .before .before .before .before .from .given .1) (c .before .before .before .if1 .left) (sym (c .if2 .left) ∙ f .ensures), tt)
+    (script-read _ _ _ _ (sym (at-line-at .line-at .ensures .0) ∙ at-from .from .given .1) (at-if1 .if1 .left) (sym (c .if2 .left) ∙ f .ensures), tt)
 
 pub script-at-spec : {M : Type 1} → statement M
 script-at-spec =

@@ -44,9 +44,11 @@ slice-aggregate-put-lines-2 c = search needs
 
 put-lines-requires : tie.Need-put-lines-requires
 put-lines-requires c κs =
-    let n = c .before .before .before .before .before .before .before .run .result .length in
-    let h = answer-fits _ _ _ (c .before .before .before .before .before .before .before .run .ensures .0) in
-    let l = length-take-le n (c .before .before .before .before .before .before .before .run .last .1 .1 .1 .1 .0) h in
+    let to-run = c .before .before .before .before .before .before in
+    let at-run = to-run .before in
+    let n = at-run .run .result .length in
+    let h = answer-fits _ _ _ (at-run .run .ensures .0) in
+    let l = length-take-le n (at-run .run .last .1 .1 .1 .1 .0) h in
     (omega arith, omega arith, omega arith)
 
 same-length : tie.Need-same-length
@@ -55,9 +57,15 @@ same-length c = search needs
 returns : tie.Need-returns
 unfolding resultLines answerOf ranOn worked
 returns c =
-    let a = c .before .before .before .before .before .before .before .before .before .before .before .before .before .before .before .before .before .before .before .args in
-    let e = ran _ _ _ _ _ (c .before .before .before .before .before .before .before .before .before .before .before .before .before .before .before .before .worked-table .ensures .0) (c .before .before .before .before .before .before .before .before .before .before .before .before .before .before .before .worked-files .ensures .0) (c .before .before .before .before .before .before .before .before .before .before .run .ensures .0) in
-    let p = c .before .before .put-lines .ensures in
+    let at-put-lines = c .before .before in
+    let to-run = at-put-lines .before .before .before .before .before .before in
+    let at-run = to-run .before .before in
+    let at-worked-files = at-run .before .before .before .before .before in
+    let at-worked-table = at-worked-files .before in
+    let at-start = at-worked-table .before .before .before in
+    let a = at-start .args in
+    let e = ran _ _ _ _ _ (at-worked-table .worked-table .ensures .0) (at-worked-files .worked-files .ensures .0) (at-run .run .ensures .0) in
+    let p = at-put-lines .put-lines .ensures in
     (p .0 ∙ ap (λ (r : Result). overwrite (a .out .now) 0 (resultLines r)) e, p .1 ∙ ap (λ (r : Result). length (resultLines r)) e, p .2)
 
 pub put-run-spec : {M : Type 1} → statement M
