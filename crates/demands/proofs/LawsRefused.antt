@@ -34,7 +34,7 @@ script-done Expanded a c = refl
 -- the numbers of the three calls
 pub run-number : (a : Arguments) (c : Card) → number (run a c) ≡ firstGiven (runRefusals c a)
 unfolding run
-run-number a c = given-number _ c (a .response) _ (script-done (formatOf (a .format)) a _)
+run-number a c = given-number _ c (a .response) _ (script-done (formatOf (a .format) (a .script)) a _)
 
 pub back-number : (c : Card) → number (takeBack c) ≡ firstGiven (takeBackRefusals c)
 unfolding takeBack
@@ -50,14 +50,14 @@ unfolding given
 run-met a c n = (λ e. is-met c a (sym (run-number a c) ∙ e), λ h. run-number a c ∙ sym (meets c a n h))
 
 -- an accepted run is its script, on the card with its mark
-pub run-done : (a : Arguments) (c : Card) → number (given (running a) c) ≡ 0 → given (running a) c ≡ runScript (formatOf (a .format)) a (withMark c)
+pub run-done : (a : Arguments) (c : Card) → number (given (running a) c) ≡ 0 → given (running a) c ≡ runScript (formatOf (a .format) (a .script)) a (withMark c)
 unfolding given run
 run-done a c ok = given-done _ c (a .response) _ (sym (run-number a c) ∙ ok)
 
 -- a refused call gives its number and nothing else
 pub refused : (h : Call) (c : Card) → (number (given h c) ≡ 0 → ⊥) → given h c ≡ gives (numbered (number (given h c))) c (lentResponse h)
 unfolding given run takeBack confirm lentResponse
-refused (running a) c z = given-alone _ c (a .response) _ (script-done (formatOf (a .format)) a _) z
+refused (running a) c z = given-alone _ c (a .response) _ (script-done (formatOf (a .format) (a .script)) a _) z
 refused takingBack c z = given-alone _ c [] _ refl z
 refused confirming c z = given-alone _ c [] _ refl z
 

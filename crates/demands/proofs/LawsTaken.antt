@@ -40,8 +40,8 @@ module _ (a : Arguments) (c : Card) (small : InBytes (running a)) (ok : number (
 pub taken-back : (a : Arguments) (c : Card) → InBytes (running a) → number (given (running a) c) ≡ 0 → given takingBack (given (running a) c .card) ≡ gives (numbered 0) c []
 unfolding given
 taken-back a c small ok =
-    let d = runScript (formatOf (a .format)) a (withMark c) .card in
-    let h = ends a c small ok (formatOf (a .format)) .1 in
+    let d = runScript (formatOf (a .format) (a .script)) a (withMark c) .card in
+    let h = ends a c small ok (formatOf (a .format) (a .script)) .1 in
     ap (λ (r : Result). given takingBack (r .card)) (run-done a c ok)
     ∙ back-done d (h .sound) (λ z. let t = h .trial in omega arith)
     ∙ ap (λ (k : Card). gives (numbered 0) k []) (h .back)

@@ -27,30 +27,30 @@ pub record RunNumber (a : Arguments) (c : Card) (n : ℕ) : Type 0 where
       ↔ (soundCard c ≡ true)
       × (argumentsFit (c .table) a ≡ true)
       × (scriptFits (a .script) ≡ true)
-      × (length (a .response) < leastResponse (formatOf (a .format)))
+      × (length (a .response) < leastResponse (formatOf (a .format) (a .script)))
   pub five :
       n ≡ 5
       ↔ (soundCard c ≡ true)
       × (argumentsFit (c .table) a ≡ true)
       × (scriptFits (a .script) ≡ true)
-      × (leastResponse (formatOf (a .format)) ≤ length (a .response))
+      × (leastResponse (formatOf (a .format) (a .script)) ≤ length (a .response))
       × (markFits (c .journal) ≡ false)
   pub six :
       n ≡ 6
       ↔ (soundCard c ≡ true)
       × (argumentsFit (c .table) a ≡ true)
       × (scriptFits (a .script) ≡ true)
-      × (leastResponse (formatOf (a .format)) ≤ length (a .response))
+      × (leastResponse (formatOf (a .format) (a .script)) ≤ length (a .response))
       × (markFits (c .journal) ≡ true)
-      × (templateFits (formatOf (a .format)) (a .script) ≡ false)
+      × (templateFits (formatOf (a .format) (a .script)) (a .script) ≡ false)
   pub accepted :
       n ≡ 0
       ↔ (soundCard c ≡ true)
       × (argumentsFit (c .table) a ≡ true)
       × (scriptFits (a .script) ≡ true)
-      × (leastResponse (formatOf (a .format)) ≤ length (a .response))
+      × (leastResponse (formatOf (a .format) (a .script)) ≤ length (a .response))
       × (markFits (c .journal) ≡ true)
-      × (templateFits (formatOf (a .format)) (a .script) ≡ true)
+      × (templateFits (formatOf (a .format) (a .script)) (a .script) ≡ true)
   pub noOther : n ≤ 6
 
 -- n is the number of a take-back

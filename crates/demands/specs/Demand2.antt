@@ -125,7 +125,7 @@ pub record Demand2 : Type 0 where
   -- an accepted run is its script, run on the card with the script's mark
   pub accepted :
       (a : Arguments) (c : Card) → number (given (running a) c) ≡ 0
-      → given (running a) c ≡ runScript (formatOf (a .format)) a (withMark c)
+      → given (running a) c ≡ runScript (formatOf (a .format) (a .script)) a (withMark c)
   -- the same commands run, with the same count and stopping place
   pub compact : (script : List ℕ) (application domain : ℕ) (card : Card) → CompactRuns script application domain card
   pub expanded :

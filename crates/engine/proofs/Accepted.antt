@@ -1,28 +1,32 @@
--- A run that meets no number: what it finds, the mark, and what its script starts from. Assumes nothing.
+-- A run that meets no number: what it finds, what its script starts from, and that the run is its script. Assumes nothing.
 use mathlib.Core.Path.{_≡_, sym, ap, _∙_}
-use mathlib.Core.Bool.{true, _&&_}
+use mathlib.Core.Bool.{true, false, _&&_}
 use mathlib.Core.List.{List}
 use Prim.Native.Nat.{ℕ, _+_, _≤_, _<_}
 use native.Mathlib.Omega.{arith}
 use lib.Dec.{leb, ltb}
 use lib.ListN.{length}
-use borrow.Author.Tests.{leb-true, ltb-true, eq-eqb, ne-eqb}
-use Rattle.octets.specs.Choice.{pick}
+use borrow.Author.Tests.{leb-true, ltb-true}
 use Rattle.octets.proofs.Picks.{and-left, and-right}
-use Rattle.card.specs.Row.{Card, lent, entries, rowOf}
+use Rattle.card.specs.Row.{Card, entries, rowOf}
 use Rattle.card.specs.Tree.{isRoot}
+use Rattle.tlv.specs.declared.template.Template.the-variants.{Definite, Indefinite}
+use Rattle.tlv.specs.Templates.{templateOf}
 use Rattle.journal.specs.Entries.{scriptsOnTrial, entryBytes, HasRoom}
 use Rattle.journal.specs.Sound.{mostScripts, markFits, soundCard, Starts}
 use Rattle.journal.specs.Changes.{withJournal, marked, withMark}
 use Rattle.journal.proofs.Parts.{card-parts, card-table, room-left}
 use Rattle.journal.proofs.Pushed.{marked-scripts}
 use Rattle.journal.proofs.Kept.{mark-sound}
+use Rattle.command.specs.declared.Format.{Format}
 use Rattle.command.specs.declared.Format.the-variants.{Compact, Expanded}
-use Rattle.engine.specs.Numbers.{Arguments, formatOf, scriptFits, firstGiven, runRefusals}
-use Rattle.engine.specs.Calls.{gives, numbered, unlessRefused, runScript, run, RunScriptAsks}
-use Rattle.engine.proofs.RunNumbers.{least-response, RunMet, is-met}
+use Rattle.engine.specs.Numbers.{Arguments, formatOf, longestScript, scriptFits, firstGiven, runRefusals}
+use Rattle.engine.specs.Calls.{Result, gives, numbered, unlessRefused, runValue, runScript, run}
+use Rattle.engine.specs.Promised.{RunScriptAsks}
+use Rattle.engine.proofs.RunNumbers.{RunMet, is-met}
 use Rattle.engine.proofs.Refusals.{arguments-root}
 use Rattle.engine.proofs.Answers.{given-nothing, given-done}
+use Rattle.engine.proofs.Ended.{definite-script, indefinite-script}
 
 module _ (c : Card) (a : Arguments) (none : firstGiven (runRefusals c a) ≡ 0) where
   found : RunMet c a 0
@@ -31,9 +35,9 @@ module _ (c : Card) (a : Arguments) (none : firstGiven (runRefusals c a) ≡ 0) 
   pub is-sound : soundCard c ≡ true
   is-sound = found .0
 
-  script-short : length (a .script) ≤ 1024
+  script-short : length (a .script) ≤ longestScript
   unfolding scriptFits
-  script-short = leb-true (length (a .script)) 1024 (and-right (leb 1 (length (a .script))) _ (found .2))
+  script-short = leb-true (length (a .script)) longestScript (and-right (leb 1 (length (a .script))) _ (found .2))
 
   few-scripts : scriptsOnTrial (c .journal) < mostScripts
   unfolding markFits
@@ -63,35 +67,43 @@ module _ (c : Card) (a : Arguments) (none : firstGiven (runRefusals c a) ≡ 0) 
   unfolding withJournal
   marked-starts = record { sound = marked-sound; marked = marked-trial; inside = inside; root = root }
 
-  -- what appending the mark asks for
-  pub may-mark : HasRoom (c .journal) (entryBytes 0) × (scriptsOnTrial (c .journal) < 255)
-  may-mark = (mark-room, omega (arith, few-scripts))
+  -- the script of its format can be run
+  pub may-start : {f : Format} → formatOf (a .format) (a .script) ≡ f → RunScriptAsks f c (a .application) (a .script) (a .response)
+  may-start e =
+      record {
+        room = mark-room;
+        trials = omega (arith, few-scripts);
+        starts = marked-starts;
+        script-length = script-short;
+        response-length = rw e at (found .3);
+      }
 
-  -- what the script of either format starts from with the journal that has the mark, and what it comes to
-  module _ (j : List ℕ) (is : j ≡ marked (c .journal)) where
-    pub script-starts : RunScriptAsks (lent (c .table) (c .files) j) (a .application) (a .script) (a .response)
-    unfolding withJournal
-    script-starts = (rw is marked-starts, script-short, rw (least-response (formatOf (a .format))) at (found .3))
+  -- what it is, by its format and its template; a script looks at its own arguments alone
+  done : {r : Result} → r ≡ runScript (formatOf (a .format) (a .script)) a (withMark c) → r ≡ run a c
+  unfolding run
+  done e = e ∙ sym (given-done _ c (a .response) _ none)
 
-    pub accepted-run : runScript (formatOf (a .format)) a (lent (c .table) (c .files) j) ≡ run a c
-    unfolding run withJournal
-    accepted-run = ap (λ k. runScript (formatOf (a .format)) a (lent (c .table) (c .files) k)) is ∙ sym (given-done _ c (a .response) _ none)
+  module _ {domain : ℕ} (same : domain ≡ a .domain) where
+    abbrev own : ℕ → Arguments
+    own format = record { application = a .application; domain = domain; format = format; script = a .script; response = a .response }
+
+    expanded : formatOf (a .format) (a .script) ≡ Expanded → runScript Expanded (own 1) (withMark c) ≡ run a c
+    unfolding runScript
+    expanded f = done (rw (same, f))
+
+    pub compact-run : formatOf (a .format) (a .script) ≡ Compact → runScript Compact (own 0) (withMark c) ≡ run a c
+    unfolding runScript
+    compact-run f = done (rw (same, f))
+
+    pub definite-run : {at end : ℕ} → formatOf (a .format) (a .script) ≡ Expanded → templateOf (a .script) ≡ Definite at end → runValue true at end (own 1) (withMark c) ≡ run a c
+    definite-run f t = definite-script (own 1) _ _ _ t ∙ expanded f
+
+    pub indefinite-run : {at end : ℕ} → formatOf (a .format) (a .script) ≡ Expanded → templateOf (a .script) ≡ Indefinite at end → runValue false at end (own 1) (withMark c) ≡ run a c
+    indefinite-run f t = indefinite-script (own 1) _ _ _ t ∙ expanded f
 
 -- a number that is not 0 refuses the run
 pub refused-run : (c : Card) (a : Arguments) (n : ℕ) → n ≡ firstGiven (runRefusals c a) → (n ≡ 0 → ⊥) → gives (numbered n) c (a .response) ≡ run a c
 unfolding run
 refused-run c a n e z =
-    let r = runScript (formatOf (a .format)) a (withMark c) in
+    let r = runScript (formatOf (a .format) (a .script)) a (withMark c) in
     sym (given-nothing n c (a .response) r z) ∙ ap (λ (m : ℕ). unlessRefused m c (a .response) r) e
-
--- a script of either format looks at its own arguments alone
-module _ (a : Arguments) {domain : ℕ} (same : domain ≡ a .domain) where
-  pub compact-script : a .format ≡ 0 → (c : Card)
-      → runScript Compact (record { application = a .application; domain = domain; format = 0; script = a .script; response = a .response }) c ≡ runScript (formatOf (a .format)) a c
-  unfolding runScript formatOf pick
-  compact-script f c = rw (same, eq-eqb (a .format) 0 f)
-
-  pub expanded-script : (a .format ≡ 0 → ⊥) → (c : Card)
-      → runScript Expanded (record { application = a .application; domain = domain; format = 1; script = a .script; response = a .response }) c ≡ runScript (formatOf (a .format)) a c
-  unfolding runScript formatOf pick
-  expanded-script f c = rw (same, ne-eqb (a .format) 0 f)

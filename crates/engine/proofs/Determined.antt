@@ -1,18 +1,24 @@
 -- Each of the three contracts allows one result: whatever the arguments and the first contents of the lent memories, two results
--- that it allows have the same number, length and count, and leave the same bytes in each lent memory. Assumes nothing.
-use mathlib.Core.Path.{_≡_, refl}
+-- that it allows have the same number, length and count, and leave the same bytes in each lent memory. So does the contract of
+-- `start_of`, which lends nothing mutable. Assumes nothing.
+use mathlib.Core.Path.{_≡_, refl, sym, _∙_}
 use mathlib.Core.List.{[]}
+use lib.ListN.{length-replicate}
 use contract.Lifetimes.{Lfts}
 use denote.Ref.{now}
 use denote.Triple.Clauses.{AtExit}
 use borrow.Fn.Kinds.{Dens, endedOf}
+use Rattle.octets.specs.Bytes.{zeros}
 use Rattle.card.specs.Row.{Card, lent}
 use Rattle.engine.specs.declared.Answer.{Answer}
+use Rattle.engine.specs.declared.numbers.Start.{Start}
 use Rattle.engine.specs.Numbers.{Arguments}
 use Rattle.engine.specs.Calls as spec
 use Rattle.engine.specs.Calls.{Result, gives}
 use Rattle.engine.proofs.run.Kinds as run
 use Rattle.engine.proofs.run.Reads as run-contract
+use Rattle.engine.proofs.numbers.start_of.Kinds as start-of
+use Rattle.engine.proofs.numbers.start_of.Reads as start-of-contract
 use Rattle.engine.proofs.take_back.Kinds as take-back
 use Rattle.engine.proofs.take_back.Reads as take-back-contract
 use Rattle.engine.proofs.confirm.Kinds as confirm
@@ -74,3 +80,11 @@ module _ (κs : Lfts 3) (args : Dens κs take-back.ps) where
 
   pub confirm-determined : (a b : Answer) (e f : AtExit (endedOf 3 confirm.ps confirm.r) κs) → confirm-contract.Learnt κs args a e → confirm-contract.Learnt κs args b f → Same (lent-result a e) (lent-result b f)
   confirm-determined a b e f h k = agree Same itself {given = spec.confirm lent-card} (h .0) (k .0)
+
+-- `engine::numbers::start_of`, called with application, domain, format, script, room, table, files and journal: a response memory of
+-- that length is one of zeros
+module _ (κs : Lfts 4) (args : Dens κs start-of.ps) where
+  pub start-determined : (a b : Start) (e f : AtExit (endedOf 4 start-of.ps start-of.r) κs) → start-of-contract.Learnt κs args a e → start-of-contract.Learnt κs args b f → a ≡ b
+  start-determined a b e f h k =
+      let room = args .1 .1 .1 .1 .0 in
+      h .0 (zeros room) (length-replicate room 0) ∙ sym (k .0 (zeros room) (length-replicate room 0))

@@ -7,19 +7,18 @@ use native.Mathlib.Omega.{arith}
 use lib.ListN.{length, take}
 use lib.Seq.{take-add}
 use Rattle.octets.specs.Bytes.{AllBytes, overwrite}
-use Rattle.octets.proofs.Writes.{write-none}
-use Rattle.card.specs.Row.{Card}
+use Rattle.card.specs.Row.{Card, lent}
 use Rattle.tlv.specs.declared.template.Template.{Template}
-use Rattle.tlv.specs.declared.template.Template.the-variants.{Definite, Indefinite, Missing}
+use Rattle.tlv.specs.declared.template.Template.the-variants.{Definite, Indefinite}
 use Rattle.tlv.specs.Templates.{templateOf}
 use Rattle.journal.specs.Sound.{Starts}
-use Rattle.journal.specs.Changes.{takenBack}
+use Rattle.journal.specs.Changes.{withJournal, marked, withMark, takenBack}
 use Rattle.session.specs.Session.{mostWaiting}
 use Rattle.command.specs.declared.Format.the-variants.{Compact, Expanded}
 use Rattle.command.specs.declared.Step.{Step}
 use Rattle.command.specs.Outcomes.{dataCount}
 use Rattle.command.specs.Promised.{OutcomeFits}
-use Rattle.step.specs.Steps.{State, stateOf, started}
+use Rattle.step.specs.Steps.{State, stateOf}
 use Rattle.step.proofs.Keeps.{starts-holds}
 use Rattle.command.proofs.Outgoing.{data-few}
 use Rattle.compact.specs.Compact as compact
@@ -31,19 +30,29 @@ use Rattle.expanded.specs.declared.run.Gathered.{Gathered}
 use Rattle.expanded.specs.Expanded as expanded
 use Rattle.expanded.specs.Expanded.{Progress}
 use Rattle.expanded.proofs.Written.{answer-few}
-use Rattle.engine.specs.Numbers.{Arguments}
-use Rattle.engine.specs.Calls.{Result, gives, numbered, Small, accepted, runValue, runScript}
+use Rattle.engine.specs.Numbers.{Arguments, longestScript, leastResponse}
+use Rattle.engine.specs.Calls.{Result, gives, Small, accepted, runValue, runScript}
+use Rattle.engine.proofs.RunNumbers.{least-response}
+
+-- the card with the journal that has the mark
+pub with-mark : (c : Card) {j : List ℕ} → j ≡ marked (c .journal) → lent (c .table) (c .files) j ≡ withMark c
+unfolding withJournal
+with-mark c e = ap (λ (j : List ℕ). lent (c .table) (c .files) j) e
+
+pub begins : (c : Card) {j : List ℕ} → j ≡ marked (c .journal) → {application : ℕ} → Starts (withMark c) application → Starts (lent (c .table) (c .files) j) application
+begins c e {application} h = subst (λ (k : Card). Starts k application) (sym (with-mark c e)) h
 
 -- a compact script: its answer has room
-pub compact-room : (script : List ℕ) → AllBytes script → {application : ℕ} (domain : ℕ) {card : Card} → Starts card application → length script ≤ 1024
+pub compact-room : (script : List ℕ) → AllBytes script → {application : ℕ} (domain : ℕ) {card : Card} → Starts card application → length script ≤ longestScript
     → {step : Step} {after : Card} → stateOf step after ≡ compact.run script application domain card
-    → {response : ℕ} → 1024 ≤ response → OutcomeFits (length (after .files)) (step .outcome) × (step .count < 256) × (3 + dataCount (step .outcome) ≤ response)
+    → {response : ℕ} → leastResponse Compact ≤ response → OutcomeFits (length (after .files)) (step .outcome) × (step .count < 256) × (3 + dataCount (step .outcome) ≤ response)
 compact-room script small {application} domain {card} starts short {step} {after} e long =
     let holds = starts-holds card application starts in
     let fits : OutcomeFits (length (after .files)) (step .outcome) =
     subst (λ (st : State). OutcomeFits (length (st .card .files)) (st .step .outcome)) (sym e) (outcome-inside script small (takenBack card) application domain card holds)
     in
-    let few = data-few (step .outcome) (length (after .files)) fits in (
+    let few = data-few (step .outcome) (length (after .files)) fits in
+    let most = rw (least-response Compact) at long in (
       fits,
       subst (λ (st : State). st .step .count < 256) (sym e) (count-byte script application domain card short),
       omega arith,
@@ -73,7 +82,7 @@ compact-gives a card step after response n e r l =
     ∙ ap (λ (st : State). accepted st (compact.answer (st .step) (st .card .files)) (a .response)) e
 
 -- an expanded script: its answer is small
-pub expanded-small : (definite : Bool) (count : ℕ) (rapdus : List ℕ) → length rapdus ≤ 1004 → count ≤ 1024
+pub expanded-small : (definite : Bool) (count : ℕ) (rapdus : List ℕ) → length rapdus ≤ expanded.roomToGather → count ≤ longestScript
     → (n : ℕ) → n ≡ length (expanded.answerBytes definite count rapdus) → Small (record { number = 0; length = n; count = count })
 expanded-small definite count rapdus few most n e = let a = answer-few definite count rapdus in (omega arith, omega arith, omega arith)
 
@@ -89,7 +98,7 @@ value-gives definite at end a card g after out response n e r l =
     ∙ (λ i. accepted (stateOf (g .step) after) (expanded.answerBytes definite (g .step .count) (take-add (g .kept) (g .last) out i)) (a .response))
     ∙ ap (λ (p : Progress). accepted (p .state) (expanded.answerBytes definite (p .state .step .count) (p .kept ++ p .last)) (a .response)) e
 
--- the value of a template of either form, and no template
+-- the value of a template of either form
 module _ (a : Arguments) (card : Card) where
   abbrev withTemplate : Template → Result
   withTemplate t =
@@ -103,9 +112,3 @@ module _ (a : Arguments) (card : Card) where
   pub indefinite-script : (at end : ℕ) → templateOf (a .script) ≡ Indefinite at end → runValue false at end a card ≡ runScript Expanded a card
   unfolding runValue runScript expanded.run expanded.answer
   indefinite-script at end e = ap withTemplate (sym e)
-
-  pub no-template : templateOf (a .script) ≡ Missing → gives (numbered 0) card (a .response) ≡ runScript Expanded a card
-  unfolding runScript accepted expanded.run expanded.answer expanded.begun started
-  no-template e =
-      ap (λ (m : List ℕ). gives (numbered 0) card m) (sym (write-none (a .response) 0))
-      ∙ ap withTemplate (sym e)

@@ -1,4 +1,5 @@
 pub mod RunNumbers
+pub mod Starts
 pub mod Answers
 pub mod Refusals
 pub mod Accepted

@@ -1,19 +1,16 @@
--- What the code tests for the numbers 2 and 6: an application's root, and the template of a format. Assumes nothing.
+-- What the code tests for the number 2: an application's root. Assumes nothing.
 use mathlib.Core.Path.{_≡_, refl}
-use mathlib.Core.Bool.{Bool, true, false, not, _&&_, _||_}
+use mathlib.Core.Bool.{Bool, true, false, _&&_, _||_}
 use mathlib.Core.List.{List}
 use Prim.Native.Nat.{ℕ}
 use native.Mathlib.Omega.{arith}
 use lib.Dec.{leb, ltb, eqb}
-use borrow.Author.Tests.{eqb-true, eqb-false, ltb-true, lt-ltb, eq-eqb, ne-eqb}
-use Rattle.octets.specs.Choice.{pick}
+use borrow.Author.Tests.{eqb-true, eqb-false, ltb-true, lt-ltb, ne-eqb}
 use Rattle.card.specs.Row.{entries, rowOf}
 use Rattle.card.specs.Sound.{soundTable}
 use Rattle.card.specs.Tree.{isRoot}
 use Rattle.card.proofs.Promises.{some-entries, first-kind, other-kind}
-use Rattle.tlv.specs.declared.template.Template.{Template}
-use Rattle.tlv.specs.Templates.{templateOf}
-use Rattle.engine.specs.Numbers.{Arguments, formatOf, isMissing, applicationFits, argumentsFit, templateFits}
+use Rattle.engine.specs.Numbers.{Arguments, applicationFits, argumentsFit}
 
 -- in a sound table, 0 and the ADFs are the roots
 module _ (t files : List ℕ) (sound : soundTable t files ≡ true) (a : ℕ) where
@@ -30,12 +27,3 @@ pub arguments-root : (t files : List ℕ) → soundTable t files ≡ true → (a
     → argumentsFit t a ≡ (leb (a .format) 1 && ((ltb (a .application) (entries t) && isRoot (rowOf t (a .application))) && (eqb (a .domain) 0x00 || eqb (a .domain) 0xFF)))
 unfolding argumentsFit
 arguments-root t files sound a = rw (application-root t files sound (a .application))
-
--- the template of a format
-pub compact-fits : (format : ℕ) (script : List ℕ) → format ≡ 0 → true ≡ templateFits (formatOf format) script
-unfolding templateFits formatOf pick
-compact-fits format script z = rw (eq-eqb format 0 z)
-
-pub expanded-fits : (format : ℕ) (script : List ℕ) {t : Template} → (format ≡ 0 → ⊥) → templateOf script ≡ t → not (isMissing t) ≡ templateFits (formatOf format) script
-unfolding templateFits formatOf pick
-expanded-fits format script z e = rw (ne-eqb format 0 z, e)

@@ -64,8 +64,8 @@ least-response Expanded = refl
 module _ (c : Card) (a : Arguments) where
   abbrev pub RunMet : ℕ → Type 0
   RunMet =
-      Met (soundCard c) (argumentsFit (c .table) a) (scriptFits (a .script)) (length (a .response)) (leastResponse (formatOf (a .format))) (markFits (c .journal))
-      (templateFits (formatOf (a .format)) (a .script))
+      Met (soundCard c) (argumentsFit (c .table) a) (scriptFits (a .script)) (length (a .response)) (leastResponse (formatOf (a .format) (a .script))) (markFits (c .journal))
+      (templateFits (formatOf (a .format) (a .script)) (a .script))
 
   pub meets : (n : ℕ) → RunMet n → n ≡ firstGiven (runRefusals c a)
   unfolding runRefusals notSound firstGiven
@@ -75,7 +75,7 @@ module _ (c : Card) (a : Arguments) where
   unfolding runRefusals notSound firstGiven
   is-met e =
       subst RunMet e
-      (met (soundCard c) (argumentsFit (c .table) a) (scriptFits (a .script)) _ (markFits (c .journal)) (templateFits (formatOf (a .format)) (a .script)) (length (a .response)) (leastResponse (formatOf (a .format))) refl)
+      (met (soundCard c) (argumentsFit (c .table) a) (scriptFits (a .script)) _ (markFits (c .journal)) (templateFits (formatOf (a .format) (a .script)) (a .script)) (length (a .response)) (leastResponse (formatOf (a .format) (a .script))) refl)
 
   -- there is no other
   pub six-most : firstGiven (runRefusals c a) ≤ 6

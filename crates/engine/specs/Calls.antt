@@ -1,5 +1,5 @@
 -- The three calls, as functions from card and arguments to answer, card and response memory.
-use Prim.Native.Nat.{ℕ, _≤_, _<_}
+use Prim.Native.Nat.{ℕ, _<_}
 use mathlib.Core.Bool.{Bool, true, false}
 use mathlib.Core.List.{List, [], _++_}
 use lib.ListN.{length}
@@ -8,7 +8,6 @@ use Rattle.octets.specs.Bytes.{overwrite}
 use Rattle.card.specs.Row.{Card}
 use Rattle.tlv.specs.declared.template.Template.{Template}
 use Rattle.tlv.specs.Templates.{templateOf}
-use Rattle.journal.specs.Sound.{Starts}
 use Rattle.journal.specs.Changes.{withMark, takenBack, confirmed}
 use Rattle.command.specs.declared.Format.{Format}
 use Rattle.command.specs.declared.Format.the-variants.{Compact, Expanded}
@@ -17,7 +16,7 @@ use Rattle.compact.specs.Compact as compact
 use Rattle.expanded.specs.Expanded as expanded
 use Rattle.expanded.specs.Expanded.{Progress}
 use Rattle.engine.specs.declared.Answer.{Answer}
-use Rattle.engine.specs.Numbers.{Arguments, formatOf, longestScript, firstGiven, runRefusals, takeBackRefusals, confirmRefusals}
+use Rattle.engine.specs.Numbers.{Arguments, formatOf, firstGiven, runRefusals, takeBackRefusals, confirmRefusals}
 
 -- what a call gives: its answer, the card after it, and the response memory after it
 pub record Result : Type 0 where
@@ -49,10 +48,6 @@ accepted st answer response =
 unfoldable pub unlessRefused : ℕ → Card → List ℕ → Result → Result
 unlessRefused number c response r = elim (eqb number 0) [ true ↦ r | false ↦ gives (numbered number) c response ]
 
--- what a script of an application starts from: a sound card with its mark, and the lengths of script and response memory
-abbrev pub RunScriptAsks : Card → ℕ → List ℕ → List ℕ → Type 0
-RunScriptAsks c application script response = Starts c application × (length script ≤ longestScript) × (1024 ≤ length response)
-
 -- the items of a template's value, from a place to its end, with the answer of the template's form
 unfoldable pub runValue : Bool → ℕ → ℕ → Arguments → Card → Result
 runValue definite at end a c =
@@ -75,7 +70,7 @@ runScript Expanded a c =
 unfoldable pub run : Arguments → Card → Result
 run a c =
     unlessRefused (firstGiven (runRefusals c a)) c (a .response)
-    (runScript (formatOf (a .format)) a (withMark c))
+    (runScript (formatOf (a .format) (a .script)) a (withMark c))
 
 -- "a take-back or confirmation has length and count 0"; neither is lent response memory
 unfoldable pub takeBack : Card → Result

@@ -13,6 +13,8 @@ use Rattle.journal.specs.Entries.{scriptsOnTrial}
 use Rattle.journal.specs.Sound.{markFits, soundCard}
 use Rattle.command.specs.declared.Format.{Format}
 use Rattle.command.specs.declared.Format.the-variants.{Compact, Expanded}
+use Rattle.engine.specs.declared.numbers.Start.{Start}
+use Rattle.engine.specs.declared.numbers.Start.the-variants as starts
 
 -- what a run is called with besides the card
 pub record Arguments : Type 0 where
@@ -27,9 +29,9 @@ pub record Refusal : Type 0 where
   pub number : ℕ
   pub given : Bool
 
--- the format of a number, 0 (compact) or 1 (expanded)
-unfoldable pub formatOf : ℕ → Format
-formatOf format = pick (eqb format 0) Compact Expanded
+-- the format of a script: that of its format number, 0 (compact) or 1 (expanded)
+unfoldable pub formatOf : ℕ → List ℕ → Format
+formatOf format script = pick (eqb format 0) Compact Expanded
 
 -- "application neither 0 (shared files) nor an ADF's entry number"
 unfoldable pub applicationFits : List ℕ → ℕ → Bool
@@ -78,10 +80,27 @@ runRefusals c a =
     notSound c
     ∷ record { number = 2; given = not (argumentsFit (c .table) a) }
     ∷ record { number = 3; given = not (scriptFits (a .script)) }
-    ∷ record { number = 4; given = ltb (length (a .response)) (leastResponse (formatOf (a .format))) }
+    ∷ record { number = 4; given = ltb (length (a .response)) (leastResponse (formatOf (a .format) (a .script))) }
     ∷ record { number = 5; given = not (markFits (c .journal)) }
-    ∷ record { number = 6; given = not (templateFits (formatOf (a .format)) (a .script)) }
+    ∷ record { number = 6; given = not (templateFits (formatOf (a .format) (a .script)) (a .script)) }
     ∷ []
+
+-- where the value of a template lies, and number 6 without one
+unfoldable pub templateStart : Template → Start
+templateStart (Definite at end) = starts.Definite at end
+templateStart (Indefinite at end) = starts.Indefinite at end
+templateStart Missing = starts.Refused 6
+
+-- how a script of a format starts
+unfoldable pub scriptStart : Format → List ℕ → Start
+scriptStart Compact script = starts.Compact
+scriptStart Expanded script = templateStart (templateOf script)
+
+-- how a run starts: with the number that is given, and where none is, with its script
+unfoldable pub startOf : Card → Arguments → Start
+startOf c a =
+    let number : ℕ = firstGiven (runRefusals c a) in
+    pick (eqb number 0) (scriptStart (formatOf (a .format) (a .script)) (a .script)) (starts.Refused number)
 
 -- "a take-back 1 and 7"
 unfoldable pub takeBackRefusals : Card → List Refusal

@@ -2,9 +2,10 @@
 mod numbers;
 mod scripts;
 
-use numbers::run_number;
+use numbers::Start;
+use numbers::start_of;
 use scripts::run_compact;
-use scripts::run_expanded;
+use scripts::run_value;
 ghost use mathlib.Core.Path.{_≡_};
 ghost use mathlib.Core.List.{[]};
 ghost use Rattle.card.specs.Row.{lent};
@@ -43,25 +44,48 @@ pub fn run(
         ≡ spec.run (record { application = application; domain = domain; format = format; script = now (script .entry); response = now (response .entry) })
         (lent (now (table .entry)) (now (files .entry)) (now (journal .entry)))) × spec.Small a ⌝ }
 {
-    let number = run_number(
+    let wide = octets::wide(domain);
+    match start_of(
         application,
         domain,
         format,
         script,
-        response,
+        response.len(),
         table,
         files,
         journal,
-    );
-    if number != 0 {
-        return numbered(number);
+    ) {
+        Start::Refused(number) => numbered(number),
+        Start::Compact => run_compact(application, wide, script, response, table, files, journal),
+        Start::Definite(at, end) => {
+            run_value(
+                true,
+                at,
+                end,
+                application,
+                wide,
+                script,
+                response,
+                table,
+                files,
+                journal,
+            )
+        }
+        Start::Indefinite(at, end) => {
+            run_value(
+                false,
+                at,
+                end,
+                application,
+                wide,
+                script,
+                response,
+                table,
+                files,
+                journal,
+            )
+        }
     }
-    journal::write::mark(journal);
-    let wide = octets::wide(domain);
-    if format == 0 {
-        return run_compact(application, wide, script, response, table, files, journal);
-    }
-    run_expanded(application, wide, script, response, table, files, journal)
 }
 
 // Takes the newest script back.

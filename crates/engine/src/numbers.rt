@@ -1,18 +1,47 @@
-// The numbers of a run, in the paper's order.
+// How a run starts: the number that refuses it, in the paper's order, or the script of its format.
+use command::Format;
 use tlv::template::Template;
 use tlv::template::template_of;
 ghost use mathlib.Core.Path.{_≡_};
 ghost use mathlib.Core.Bool.{_&&_, _||_};
-ghost use Prim.Native.Nat.{_≤_};
+ghost use mathlib.Core.List.{List};
+ghost use Prim.Native.Nat.{ℕ};
 ghost use lib.Dec.{leb, ltb, eqb};
 ghost use lib.ListN.{length};
 ghost use Rattle.card.specs.Row.{lent, entries, rowOf};
 ghost use Rattle.card.specs.Tree.{isRoot, ParentsSmaller};
 ghost use Rattle.engine.specs.Numbers as spec;
+ghost use Rattle.engine.specs.Promised.{StartFits};
+
+// How a run starts: the number that refuses it; a compact script; the place and the end of the value of an AA or an AE template.
+pub enum Start {
+    Refused(usize),
+    Compact,
+    Definite(usize, usize),
+    Indefinite(usize, usize),
+}
 
 const LONGEST_SCRIPT: usize = 1024;
 
-const LEAST_RESPONSE: usize = 1024;
+// Returns the format of a script that is called with a format number.
+fn format_of(format: u8, script: &[u8]) -> Format
+    ensures { λ f. ⌜ f ≡ spec.formatOf format (now (script .entry)) ⌝ }
+{
+    if format == 0 {
+        return Format::Compact;
+    }
+    Format::Expanded
+}
+
+// Returns how many bytes the response memory of a format has at least.
+fn least_response(format: Format) -> usize
+    ensures { λ n. ⌜ n ≡ spec.leastResponse format ⌝ }
+{
+    match format {
+        Format::Compact => 1024,
+        Format::Expanded => 1024,
+    }
+}
 
 // Whether a number is the entry number of an application's root.
 fn is_application(table: &[u8], application: usize) -> bool
@@ -40,50 +69,50 @@ fn script_fits(script: &[u8]) -> bool
     (1 <= script.len()) & (script.len() <= LONGEST_SCRIPT)
 }
 
-// Whether a script has the template that its format asks for.
-fn template_fits(format: u8, script: &[u8]) -> bool
-    ensures { λ b. ⌜ b ≡ spec.templateFits (spec.formatOf format) (now (script .entry)) ⌝ }
+// Returns how a script of a format starts where its template alone can refuse it.
+fn script_start(format: Format, script: &[u8]) -> Start
+    ensures { λ r. ⌜ (r ≡ spec.scriptStart format (now (script .entry))) × StartFits (length (now (script .entry))) r ⌝ }
 {
-    if format == 0 {
-        return true;
-    }
-    match template_of(script) {
-        Template::Definite(_, _) => true,
-        Template::Indefinite(_, _) => true,
-        Template::Missing => false,
+    match format {
+        Format::Compact => Start::Compact,
+        Format::Expanded => {
+            match template_of(script) {
+                Template::Definite(at, end) => Start::Definite(at, end),
+                Template::Indefinite(at, end) => Start::Indefinite(at, end),
+                Template::Missing => Start::Refused(6),
+            }
+        }
     }
 }
 
-// The first number that a run meets, and 0 for none.
-pub fn run_number(
+// Returns how a run starts whose response memory has `room` bytes.
+pub fn start_of(
     application: usize,
     domain: u8,
     format: u8,
     script: &[u8],
-    response: &[u8],
+    room: usize,
     table: &[u8],
     files: &[u8],
     journal: &[u8],
-) -> usize
-    ensures { λ n. ⌜ (n ≡ spec.firstGiven (spec.runRefusals (lent (now (table .entry)) (now (files .entry)) (now (journal .entry))) (record { application = application; domain = domain; format = format; script = now (script .entry); response = now (response .entry) }))) × (n ≤ 6) ⌝ }
+) -> Start
+    ensures { λ r. ⌜ ((response : List ℕ) → length response ≡ room → r ≡ spec.startOf (lent (now (table .entry)) (now (files .entry)) (now (journal .entry))) (record { application = application; domain = domain; format = format; script = now (script .entry); response = response })) × StartFits (length (now (script .entry))) r ⌝ }
 {
     if !journal::sound::sound_card(table, files, journal) {
-        return 1;
+        return Start::Refused(1);
     }
     if !arguments_fit(table, application, domain, format) {
-        return 2;
+        return Start::Refused(2);
     }
     if !script_fits(script) {
-        return 3;
+        return Start::Refused(3);
     }
-    if response.len() < LEAST_RESPONSE {
-        return 4;
+    let form = format_of(format, script);
+    if room < least_response(form) {
+        return Start::Refused(4);
     }
     if !journal::read::mark_fits(journal) {
-        return 5;
+        return Start::Refused(5);
     }
-    if !template_fits(format, script) {
-        return 6;
-    }
-    0
+    script_start(form, script)
 }

@@ -1,18 +1,17 @@
-// A script of each format on a card that has the script's mark: it is run, and its answer written.
+// A script of each format: its mark is set, it is run, and its answer written.
 use crate::Answer;
-use crate::numbered;
 use expanded::answer::put_answer;
 use expanded::run::ROOM_TO_GATHER;
-use tlv::template::Template;
-use tlv::template::template_of;
 ghost use mathlib.Core.Path.{_≡_};
 ghost use Prim.Native.Nat.{_≤_};
 ghost use lib.ListN.{length};
 ghost use Rattle.card.specs.Row.{lent};
 ghost use Rattle.command.specs.declared.Format.the-variants as formats;
+ghost use Rattle.journal.specs.Changes.{withMark};
 ghost use Rattle.engine.specs.Calls as spec;
+ghost use Rattle.engine.specs.Promised.{RunScriptAsks};
 
-// A compact script.
+// Runs a compact script.
 pub fn run_compact(
     application: usize,
     domain: usize,
@@ -22,11 +21,12 @@ pub fn run_compact(
     files: &mut [u8],
     journal: &mut [u8],
 ) -> Answer
-    requires { ⌜ spec.RunScriptAsks (lent (now table) (now files) (now journal)) application (now script) (now response) ⌝ }
+    requires { ⌜ RunScriptAsks formats.Compact (lent (now table) (now files) (now journal)) application (now script) (now response) ⌝ }
     ensures { λ a. ⌜ (spec.gives a (lent (now (table .exit)) (now (files .exit)) (now (journal .exit))) (now (response .exit))
         ≡ spec.runScript formats.Compact (record { application = application; domain = domain; format = 0; script = now (script .entry); response = now (response .entry) })
-        (lent (now (table .entry)) (now (files .entry)) (now (journal .entry)))) × spec.Small a ⌝ }
+        (withMark (lent (now (table .entry)) (now (files .entry)) (now (journal .entry))))) × spec.Small a ⌝ }
 {
+    journal::write::mark(journal);
     let step = compact::run::run(script, application, domain, table, files, journal);
     let length = compact::answer::put_answer(response, step, files);
     Answer {
@@ -36,8 +36,8 @@ pub fn run_compact(
     }
 }
 
-// The items of a template's value, from a place to its end, with the answer of the template's form.
-fn run_value(
+// Runs the items of a template's value, from the place `at` to its end, with the answer of the template's form.
+pub fn run_value(
     definite: bool,
     at: usize,
     end: usize,
@@ -49,11 +49,12 @@ fn run_value(
     files: &mut [u8],
     journal: &mut [u8],
 ) -> Answer
-    requires { ⌜ (at ≤ end) × (end ≤ length (now script)) × spec.RunScriptAsks (lent (now table) (now files) (now journal)) application (now script) (now response) ⌝ }
+    requires { ⌜ (at ≤ end) × (end ≤ length (now script)) × RunScriptAsks formats.Expanded (lent (now table) (now files) (now journal)) application (now script) (now response) ⌝ }
     ensures { λ a. ⌜ (spec.gives a (lent (now (table .exit)) (now (files .exit)) (now (journal .exit))) (now (response .exit))
         ≡ spec.runValue definite at end (record { application = application; domain = domain; format = 1; script = now (script .entry); response = now (response .entry) })
-        (lent (now (table .entry)) (now (files .entry)) (now (journal .entry)))) × spec.Small a ⌝ }
+        (withMark (lent (now (table .entry)) (now (files .entry)) (now (journal .entry))))) × spec.Small a ⌝ }
 {
+    journal::write::mark(journal);
     let mut rapdus = [0; ROOM_TO_GATHER];
     let g = expanded::run::run(
         script,
@@ -74,53 +75,5 @@ fn run_value(
         number: 0,
         length,
         count: step.count,
-    }
-}
-
-// An expanded script.
-pub fn run_expanded(
-    application: usize,
-    domain: usize,
-    script: &[u8],
-    response: &mut [u8],
-    table: &mut [u8],
-    files: &mut [u8],
-    journal: &mut [u8],
-) -> Answer
-    requires { ⌜ spec.RunScriptAsks (lent (now table) (now files) (now journal)) application (now script) (now response) ⌝ }
-    ensures { λ a. ⌜ (spec.gives a (lent (now (table .exit)) (now (files .exit)) (now (journal .exit))) (now (response .exit))
-        ≡ spec.runScript formats.Expanded (record { application = application; domain = domain; format = 1; script = now (script .entry); response = now (response .entry) })
-        (lent (now (table .entry)) (now (files .entry)) (now (journal .entry)))) × spec.Small a ⌝ }
-{
-    match template_of(script) {
-        Template::Definite(at, end) => {
-            run_value(
-                true,
-                at,
-                end,
-                application,
-                domain,
-                script,
-                response,
-                table,
-                files,
-                journal,
-            )
-        }
-        Template::Indefinite(at, end) => {
-            run_value(
-                false,
-                at,
-                end,
-                application,
-                domain,
-                script,
-                response,
-                table,
-                files,
-                journal,
-            )
-        }
-        Template::Missing => numbered(0),
     }
 }

@@ -15,7 +15,7 @@ use Rattle.engine.specs.Worked.{worked}
 abbrev Fits : Result → Type 0
 Fits r = r .answer .length ≤ length (r .response)
 
-script-fits : (a : Arguments) (c : Card) → Fits (runScript (formatOf (a .format)) a c)
+script-fits : (a : Arguments) (c : Card) → Fits (runScript (formatOf (a .format) (a .script)) a c)
 unfolding formatOf runScript accepted overwrite
 script-fits a c = on-pick (λ f. Fits (runScript f a c)) _ _ _ (λ _. simp length-append (omega arith)) (λ _. simp length-append (omega arith))
 

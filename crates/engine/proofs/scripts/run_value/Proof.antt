@@ -1,19 +1,47 @@
--- `engine::scripts::run_value` meets its contract. Assumes nothing.
-use mathlib.Core.Path.{sym}
+-- `engine::scripts::run_value` meets its contract: with its mark the card is one that a script starts from. Assumes nothing.
+use mathlib.Core.Path.{sym, ap, _∙_}
 use Prim.Native.Nat.{_+_}
 use native.Mathlib.Omega.{arith}
 use lib.ListN.{length-take}
 use lib.Seq.{length-take-le}
 use borrow.Author.Needs.{needs}
-use Rattle.engine.proofs.Ended.{expanded-small, value-gives}
+use Rattle.card.specs.Row.{Card, lent}
+use Rattle.command.specs.declared.Format.the-variants.{Expanded}
+use Rattle.engine.specs.Calls.{runValue}
+use Rattle.engine.proofs.RunNumbers.{least-response}
+use Rattle.engine.proofs.Ended.{with-mark, begins, expanded-small, value-gives}
 use Rattle.engine.proofs.scripts.run_value.Statement.{statement}
 use Rattle.engine.proofs.scripts.run_value.Tie as tie
+
+-- where it starts, from where the mark is set, and its card
+abbrev start : tie.After-mark → tie.Start
+start m =
+    let at-slices = m .before .before in
+    at-slices .before .before .before .before .before
+
+abbrev cardOf : tie.Start → Card
+cardOf s = lent (s .args .table .now) (s .args .files .now) (s .args .journal .now)
+
+-- where the mark is set, from where the room for the answer is made
+abbrev marked : tie.After-rapdus → tie.After-mark
+marked c = c .before .before .before
+
+mark-requires : tie.Need-mark-requires
+mark-requires c κs = search needs
 
 slice-aggregate-run : tie.Need-slice-aggregate-run
 slice-aggregate-run c = search needs
 
 run-requires : tie.Need-run-requires
-run-requires c κs = search needs
+run-requires c κs =
+    let at-mark = marked (c .before .before .before) in
+    let s = start at-mark in (
+      s .pre .0,
+      s .pre .1,
+      s .pre .2 .script-length,
+      begins (cardOf s) (at-mark .mark .ensures) (s .pre .2 .starts),
+      search needs,
+    )
 
 add-gathered : tie.Need-add-gathered
 add-gathered c = search needs
@@ -35,10 +63,10 @@ slice-aggregate-put-answer c =
 put-answer-requires : tie.Need-put-answer-requires
 put-answer-requires c κs =
     let at-run = ran c in
-    let at-rapdus = at-run .before .before .before .before in
-    let s = at-rapdus .before .before .before .before .before .before in
-    let r = at-run .run in (
-      omega (arith, s .pre .2 .2),
+    let s = start (marked (at-run .before .before .before .before)) in
+    let r = at-run .run in
+    let long = rw (least-response Expanded) at (s .pre .2 .response-length) in (
+      omega (arith, long),
       rw length-take (omega (arith, r .ensures .1)),
       r .ensures .2,
     )
@@ -58,9 +86,12 @@ same-length-4 c = search needs
 returns : tie.Need-returns
 returns c =
     let at-put-answer = c .before .before in
-    let r = ran (at-put-answer .before) .run in
+    let at-run = ran (at-put-answer .before) in
+    let at-mark = marked (at-run .before .before .before .before) in
+    let s = start at-mark in
+    let r = at-run .run in
     let p = at-put-answer .put-answer .ensures in (
-      value-gives _ _ _ _ _ (r .result) _ _ _ _ (r .ensures .0) (p .0) (p .1),
+      value-gives _ _ _ _ _ (r .result) _ _ _ _ (r .ensures .0) (p .0) (p .1) ∙ ap (runValue _ _ _ _) (with-mark (cardOf s) (at-mark .mark .ensures)),
       expanded-small _ (r .result .step .count) _ (rw length-take (omega (arith, r .ensures .1))) (r .ensures .2) _ (p .1),
     )
 
@@ -68,6 +99,7 @@ pub run-value-spec : {M : Type 1} → statement M
 run-value-spec =
     tie.close
     (tie.spec
+    mark-requires
     slice-aggregate-run
     run-requires
     add-gathered
