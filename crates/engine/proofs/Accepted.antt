@@ -1,8 +1,7 @@
 -- A run that meets no number: what it finds, what its script starts from, and that the run is its script. Assumes nothing.
 use mathlib.Core.Path.{_≡_, sym, ap, _∙_}
 use mathlib.Core.Bool.{true, false, _&&_}
-use mathlib.Core.List.{List}
-use Prim.Native.Nat.{ℕ, _+_, _≤_, _<_}
+use Prim.Native.Nat.{ℕ, _≤_, _<_}
 use native.Mathlib.Omega.{arith}
 use lib.Dec.{leb, ltb}
 use lib.ListN.{length}
@@ -74,8 +73,8 @@ module _ (c : Card) (a : Arguments) (none : firstGiven (runRefusals c a) ≡ 0) 
         room = mark-room;
         trials = omega (arith, few-scripts);
         starts = marked-starts;
-        script-length = script-short;
-        response-length = rw e at (found .3);
+        scriptShort = script-short;
+        responseLong = rw e at (found .3);
       }
 
   -- what it is, by its format and its template; a script looks at its own arguments alone

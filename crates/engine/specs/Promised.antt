@@ -24,5 +24,5 @@ pub record RunScriptAsks (format : Format) (c : Card) (application : ℕ) (scrip
   pub room : HasRoom (c .journal) (entryBytes 0)
   pub trials : scriptsOnTrial (c .journal) < 255
   pub starts : Starts (withMark c) application
-  pub script-length : length script ≤ longestScript
-  pub response-length : leastResponse format ≤ length response
+  pub scriptShort : length script ≤ longestScript
+  pub responseLong : leastResponse format ≤ length response

@@ -19,6 +19,12 @@ use Rattle.engine.proofs.confirm.Tie as tie
 abbrev cardOf : tie.Start → Card
 cardOf s = lent (s .args .table .now) (s .args .files .now) (s .args .journal .now)
 
+-- where it starts, from where the card is looked at
+abbrev start : tie.After-sound-card → tie.Start
+start c =
+    let at-slices = c .before .before .before .before in
+    at-slices .before .before .before
+
 sound-card-requires : tie.Need-sound-card-requires
 sound-card-requires c κs = search needs
 
@@ -40,13 +46,14 @@ returns c =
     (sym (confirm-unsound _ (told-false (c .before .before .sound-card .ensures) (c .before .if1 .taken))))
 
 -- past the test, the card is sound
-sound : (o : tie.Else1) → soundCard (cardOf (o .before .before .before .before .before .before .before .before)) ≡ true
+sound : (o : tie.Else1) → soundCard (cardOf (start (o .before))) ≡ true
 sound o = told-true (o .before .sound-card .ensures) (o .if1 .left)
 
 confirm-requires : tie.Need-confirm-requires
 unfolding room
 confirm-requires c κs =
-    let parts = card-parts (cardOf (c .before .before .before .before .before .before .before .before .before)) (sound (c .before)) in
+    let at-else = c .before in
+    let parts = card-parts (cardOf (start (at-else .before))) (sound at-else) in
     (omega arith, parts .rest)
 
 numbered-requires-2 : tie.Need-numbered-requires-2
@@ -64,9 +71,11 @@ same-length-6 c = search needs
 returns-2 : tie.Need-returns-2
 unfolding withJournal confirmed
 returns-2 c =
-    let a = c .before .before .before .before .before .before .before .before .before .before .before .before .before .args in
+    let at-confirm = c .before .before .before in
+    let at-else = at-confirm .before .before in
+    let a = start (at-else .before) .args in
     answers-number 0 (omega arith) (c .numbered2 .ensures) _ _
-    (ap (λ (j : List ℕ). gives (numbered 0) (lent (a .table .now) (a .files .now) j) []) (c .before .before .before .confirm .ensures) ∙ sym (confirm-done _ (sound (c .before .before .before .before .before))))
+    (ap (λ (j : List ℕ). gives (numbered 0) (lent (a .table .now) (a .files .now) j) []) (at-confirm .confirm .ensures) ∙ sym (confirm-done _ (sound at-else)))
 
 pub confirm-spec : {M : Type 1} → statement M
 confirm-spec =

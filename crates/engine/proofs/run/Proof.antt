@@ -1,4 +1,7 @@
 -- `engine::run` meets its contract: it is what its start says, a number alone, or the script of its format. Assumes nothing.
+--
+-- In each arm of the match the start is known, and with it what it says of the run (`said`): the number that is given, or that none is
+-- and which format and template the script has. From that follows what the arm's function asks, and that its result is the run's.
 use mathlib.Core.Path.{_≡_, sym, subst, _∙_}
 use native.Mathlib.Omega.{arith}
 use lib.ListN.{length}

@@ -1,5 +1,8 @@
--- `engine::numbers::start_of` meets its contract: each `return` is a case of the numbers, and past the tests the script starts, whatever
--- the response memory of that length. Assumes nothing.
+-- `engine::numbers::start_of` meets its contract: each `return` is a case of the numbers, and past the tests the script starts. Assumes nothing.
+--
+-- The tests stand in the order of the numbers. What is known past each of them is a fact of its own, said where that test was passed
+-- (`sound`, `known`, `script`, `long`, `mark`), and a way out gathers the facts of the tests before it with the one that failed: that is
+-- what the number stands for (`RunMet`). The response memory is a variable throughout, of which its length alone is known.
 use mathlib.Core.Path.{_≡_, sym, ap, _∙_}
 use mathlib.Core.Bool.{true}
 use mathlib.Core.List.{List}

@@ -36,7 +36,7 @@ run-requires c κs =
     let at-journal = c .before .before .before .before in
     let at-mark = at-journal .before in
     let s = start at-mark in
-    (begins (cardOf s) (at-mark .mark .ensures) (s .pre .starts), s .pre .script-length)
+    (begins (cardOf s) (at-mark .mark .ensures) (s .pre .starts), s .pre .scriptShort)
 
 put-answer-requires : tie.Need-put-answer-requires
 put-answer-requires c κs =
@@ -45,7 +45,7 @@ put-answer-requires c κs =
     let at-mark = marked at-run in
     let s = start at-mark in
     let starts = begins (cardOf s) (at-mark .mark .ensures) (s .pre .starts) in
-    compact-room (s .args .script .now) (small at-mark) (s .args .domain) starts (s .pre .script-length) (at-run .run .ensures) (s .pre .response-length)
+    compact-room (s .args .script .now) (small at-mark) (s .args .domain) starts (s .pre .scriptShort) (at-run .run .ensures) (s .pre .responseLong)
 
 same-length : tie.Need-same-length
 same-length c = search needs
@@ -69,7 +69,7 @@ returns c =
     let r = at-run .run in
     let p = at-put-answer .put-answer .ensures in
     let starts = begins (cardOf s) (at-mark .mark .ensures) (s .pre .starts) in
-    let fits = compact-room (s .args .script .now) (small at-mark) (s .args .domain) starts (s .pre .script-length) (r .ensures) (s .pre .response-length) in (
+    let fits = compact-room (s .args .script .now) (small at-mark) (s .args .domain) starts (s .pre .scriptShort) (r .ensures) (s .pre .responseLong) in (
       compact-gives _ _ (r .result) _ _ _ (r .ensures) (p .0) (p .1) ∙ ap (runScript Compact _) (with-mark (cardOf s) (at-mark .mark .ensures)),
       compact-small (r .result) _ (fits .0) (fits .1) (compact-waiting (s .args .script .now) (small at-mark) (s .args .domain) starts (r .ensures)) _ (p .1),
     )

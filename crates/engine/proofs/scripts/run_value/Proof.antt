@@ -38,7 +38,7 @@ run-requires c κs =
     let s = start at-mark in (
       s .pre .0,
       s .pre .1,
-      s .pre .2 .script-length,
+      s .pre .2 .scriptShort,
       begins (cardOf s) (at-mark .mark .ensures) (s .pre .2 .starts),
       search needs,
     )
@@ -65,7 +65,7 @@ put-answer-requires c κs =
     let at-run = ran c in
     let s = start (marked (at-run .before .before .before .before)) in
     let r = at-run .run in
-    let long = rw (least-response Expanded) at (s .pre .2 .response-length) in (
+    let long = rw (least-response Expanded) at (s .pre .2 .responseLong) in (
       omega (arith, long),
       rw length-take (omega (arith, r .ensures .1)),
       r .ensures .2,
