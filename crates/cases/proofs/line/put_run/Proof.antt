@@ -51,14 +51,15 @@ slice-reshare-prefix-put-labelled c = search needs
 slice-aggregate-put-labelled-2 : tie.Need-slice-aggregate-put-labelled-2
 slice-aggregate-put-labelled-2 c = sym (length-take-le _ _ (c .before .before .before .in-use .ensures .1))
 
+-- where the script was run, from where the used bytes were read
+abbrev ran-before : tie.After-in-use → tie.After-run
+ran-before k = let to-run = k .before .before .before .before .before .before in to-run .before
+
 put-labelled-requires : tie.Need-put-labelled-requires
 put-labelled-requires c κs =
-    let at-in-use = c .before .before .before in
-    let to-run = at-in-use .before .before .before .before .before .before in
-    let at-run = to-run .before in
-    let h = answer-fits _ _ _ (at-run .run .ensures .0) in
-    let l = length-take-le (at-run .run .result .length) (at-run .run .last .1 .1 .1 .1 .0) h in
-    let k = length-take-le (at-in-use .in-use .result) (at-run .run .last .1 .1 .1 .1 .1 .1 .1 .0) (at-in-use .in-use .ensures .1) in
+    let h = answer-fits _ _ _ (ran-before (c .before .before .before) .run .ensures .0) in
+    let l = length-take-le (ran-before (c .before .before .before) .run .result .length) (ran-before (c .before .before .before) .run .last .1 .1 .1 .1 .0) h in
+    let k = length-take-le (c .before .before .before .in-use .result) (ran-before (c .before .before .before) .run .last .1 .1 .1 .1 .1 .1 .1 .0) (c .before .before .before .in-use .ensures .1) in
     (omega arith, omega arith, omega arith, omega arith)
 
 same-length : tie.Need-same-length
