@@ -12,6 +12,7 @@ use Rattle.card.specs.Row.{Card}
 use Rattle.command.specs.declared.Reading.{Reading}
 use Rattle.command.specs.Outcomes.{wordOf, goesOn}
 use Rattle.step.specs.Steps.{State, started, stepped}
+use Rattle.step.specs.Limits.{longestScript}
 use Rattle.compact.specs.Compact.{headerSize, broken, wholeAt, readAt, placeAfter, stepRead, stepAt, runFrom, run}
 use Rattle.compact.proofs.Readings.{on-reading}
 use Rattle.compact.proofs.Going.{nothing-left}
@@ -52,6 +53,6 @@ module _ (script : List ℕ) (domain : ℕ) where
       (λ g. omega arith))
       (λ y. omega arith)
 
-pub count-byte : (script : List ℕ) (application domain : ℕ) (card : Card) → length script ≤ 1024 → run script application domain card .step .count < 256
+pub count-byte : (script : List ℕ) (application domain : ℕ) (card : Card) → length script ≤ longestScript → run script application domain card .step .count < 256
 unfolding run started
 count-byte script application domain card short = let few = run-few script domain (length script) 0 (started application card) (omega arith) (omega arith) in omega arith

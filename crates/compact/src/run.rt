@@ -11,6 +11,7 @@ ghost use Prim.Native.Nat.{_≤_, _<_};
 ghost use lib.ListN.{length};
 ghost use Rattle.card.specs.Row.{lent};
 ghost use Rattle.journal.specs.Sound.{Starts};
+ghost use Rattle.step.specs.Limits.{longestScript};
 ghost use Rattle.step.specs.Steps.{stateOf};
 ghost use Rattle.step.specs.Promised.{RunCommandAsks};
 ghost use Rattle.compact.specs.Compact as spec;
@@ -56,7 +57,7 @@ pub fn run(
     files: &mut [u8],
     journal: &mut [u8],
 ) -> Step
-    requires { ⌜ Starts (lent (now table) (now files) (now journal)) application × (length (now script) ≤ 1024) ⌝ }
+    requires { ⌜ Starts (lent (now table) (now files) (now journal)) application × (length (now script) ≤ longestScript) ⌝ }
     ensures { λ r. ⌜ stateOf r (lent (now (table .exit)) (now (files .exit)) (now (journal .exit))) ≡ spec.run (now (script .entry)) application domain (lent (now (table .entry)) (now (files .entry)) (now (journal .entry))) ⌝ }
 {
     let mut step = Step {

@@ -42,7 +42,7 @@ ghost use Rattle.plan.specs.Plans.{Situation};
 ghost use Rattle.decide.specs.Order.{selectChecks};
 ghost use Rattle.decide.specs.Fails.{firstFailing};
 ghost use Rattle.decide.specs.Decisions.{situation, decided, planned};
-ghost use Rattle.plan.specs.Promised.{writesOf, planOf, Fits, Brief};
+ghost use Rattle.plan.specs.Promised.{writesOf, planOf, Fits, CostOfAsks};
 ghost use Rattle.decide.specs.Promised.{roomed, responded, DecideAsks, Decided};
 
 // GET RESPONSE.
@@ -92,7 +92,7 @@ fn decide_select(
 
 // Returns how many journal bytes a change takes, with lc data bytes.
 fn cost_of(change: Change, lc: usize) -> usize
-    requires { ⌜ (lc < 256) × Brief change ⌝ }
+    requires { ⌜ (lc < 256) × CostOfAsks change ⌝ }
     ensures { λ n. ⌜ ((«data» bytes : List ℕ) → length «data» ≡ lc → length bytes ≡ mostWaiting → n ≡ cost (writesOf change «data» bytes)) × (n < 65536) ⌝ }
 {
     match change {
@@ -106,7 +106,7 @@ fn cost_of(change: Change, lc: usize) -> usize
 
 // A decision, or 6581 where the journal has no room for what it writes.
 fn with_room(d: Decision, s: Standing, lc: usize, used: usize, room: usize) -> Decision
-    requires { ⌜ (lc < 256) × (used < 65536) × (used ≤ room) × Brief (d .change) ⌝ }
+    requires { ⌜ (lc < 256) × (used < 65536) × (used ≤ room) × CostOfAsks (d .change) ⌝ }
     ensures { λ r. ⌜ ((«data» bytes : List ℕ) → length «data» ≡ lc → length bytes ≡ mostWaiting → planOf r «data» bytes ≡ roomed used room s (planOf d «data» bytes)) × ((t f : ℕ) → Fits t f lc (d .change) → Fits t f lc (r .change)) ⌝ }
 {
     let change = d.change;

@@ -19,7 +19,8 @@ use Rattle.journal.proofs.Pushed.{marked-scripts}
 use Rattle.journal.proofs.Kept.{mark-sound}
 use Rattle.command.specs.declared.Format.{Format}
 use Rattle.command.specs.declared.Format.the-variants.{Compact, Expanded}
-use Rattle.engine.specs.Numbers.{Arguments, formatOf, longestScript, scriptFits, firstGiven, runRefusals}
+use Rattle.step.specs.Limits.{longestScript}
+use Rattle.engine.specs.Numbers.{Arguments, formatOf, scriptFits, firstGiven, runRefusals}
 use Rattle.engine.specs.Calls.{Result, gives, numbered, unlessRefused, runValue, runScript, run}
 use Rattle.engine.specs.Promised.{RunScriptAsks}
 use Rattle.engine.proofs.RunNumbers.{RunMet, is-met}

@@ -30,7 +30,8 @@ use Rattle.expanded.specs.declared.run.Gathered.{Gathered}
 use Rattle.expanded.specs.Expanded as expanded
 use Rattle.expanded.specs.Expanded.{Progress}
 use Rattle.expanded.proofs.Written.{answer-few}
-use Rattle.engine.specs.Numbers.{Arguments, longestScript, leastResponse}
+use Rattle.step.specs.Limits.{longestScript}
+use Rattle.engine.specs.Numbers.{Arguments, leastResponse}
 use Rattle.engine.specs.Calls.{Result, gives, Small, accepted, runValue, runScript}
 use Rattle.engine.proofs.RunNumbers.{least-response}
 

@@ -13,6 +13,7 @@ use Rattle.journal.specs.Entries.{scriptsOnTrial}
 use Rattle.journal.specs.Sound.{markFits, soundCard}
 use Rattle.command.specs.declared.Format.{Format}
 use Rattle.command.specs.declared.Format.the-variants.{Compact, Expanded}
+use Rattle.step.specs.Limits.{longestScript}
 use Rattle.engine.specs.declared.numbers.Start.{Start}
 use Rattle.engine.specs.declared.numbers.Start.the-variants as starts
 
@@ -44,9 +45,6 @@ argumentsFit t a =
     && (applicationFits t (a .application) && (eqb (a .domain) 0x00 || eqb (a .domain) 0xFF))
 
 -- "script length not 1 to 1,024"
-abbrev pub longestScript : ℕ
-longestScript = 1024
-
 unfoldable pub scriptFits : List ℕ → Bool
 scriptFits script = leb 1 (length script) && leb (length script) longestScript
 

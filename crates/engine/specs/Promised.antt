@@ -9,7 +9,8 @@ use Rattle.journal.specs.Changes.{withMark}
 use Rattle.command.specs.declared.Format.{Format}
 use Rattle.engine.specs.declared.numbers.Start.{Start}
 use Rattle.engine.specs.declared.numbers.Start.the-variants.{Refused, Compact, Definite, Indefinite}
-use Rattle.engine.specs.Numbers.{longestScript, leastResponse}
+use Rattle.step.specs.Limits.{longestScript}
+use Rattle.engine.specs.Numbers.{leastResponse}
 
 -- the value of a template that a run starts with lies in the script
 unfoldable pub StartFits : ℕ → Start → Type 0

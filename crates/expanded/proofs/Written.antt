@@ -13,7 +13,7 @@ use Rattle.octets.proofs.Writes.{write-two}
 use Rattle.tlv.specs.Lengths.{lengthBytes}
 use Rattle.tlv.proofs.Written.{length-one, length-few}
 use Rattle.step.specs.Limits.{rapduSize}
-use Rattle.expanded.specs.Expanded.{rapdu, countBytes, definiteBody, definiteAnswer, indefiniteAnswer, answerBytes}
+use Rattle.expanded.specs.Expanded.{rapdu, countBytes, definiteBody, definiteAnswer, indefiniteAnswer, answerBytes, roomToGather, roomToAnswer}
 
 -- the bytes of a count, by its size
 module _ (n : ℕ) where
@@ -59,7 +59,7 @@ module _ (count : ℕ) (rapdus : List ℕ) {size : ℕ} (sized : size ≡ length
   unfolding definiteAnswer
   answer-length = rw body-length (omega (arith, body-length, length-append (lengthBytes (2 + (size + length rapdus))) (definiteBody count rapdus)))
 
-module _ (m : List ℕ) (count : ℕ) (rapdus : List ℕ) (room : 1024 ≤ length m) (few : length rapdus ≤ 1004) {size : ℕ} (sized : size ≡ length (countBytes count)) {w1 w2 w3 w4 w5 : List ℕ} {at from : ℕ} where
+module _ (m : List ℕ) (count : ℕ) (rapdus : List ℕ) (room : roomToAnswer ≤ length m) (few : length rapdus ≤ roomToGather) {size : ℕ} (sized : size ≡ length (countBytes count)) {w1 w2 w3 w4 w5 : List ℕ} {at from : ℕ} where
   pub definite-written : w1 ≡ overwrite m 0 (0xAB ∷ []) → w2 ≡ overwrite w1 1 (lengthBytes (2 + (size + length rapdus))) → at ≡ 1 + length (lengthBytes (2 + (size + length rapdus))) → w3 ≡ overwrite w2 at (0x80 ∷ size ∷ []) → w4 ≡ overwrite w3 (at + 2) (countBytes count) → from ≡ at + 2 + length (countBytes count) → w5 ≡ overwrite w4 from rapdus → (w5 ≡ overwrite m 0 (definiteAnswer count rapdus)) × (from + length rapdus ≡ length (definiteAnswer count rapdus))
   unfolding definiteAnswer definiteBody
   definite-written h1 h2 a h3 h4 f h5 =
@@ -79,7 +79,7 @@ module _ (m : List ℕ) (count : ℕ) (rapdus : List ℕ) (room : 1024 ≤ lengt
       ((rw (append-assoc, append-assoc) at e5) ∙ ap (λ (k : ℕ). overwrite m 0 (0xAB ∷ (lengthBytes k ++ definiteBody count rapdus))) (sym (body-length count rapdus sized)), rw (answer-length count rapdus sized) (omega arith))
 
 -- the answer to AE: tag and 80, R-APDUs, and 00 00
-pub indefinite-written : (m rapdus : List ℕ) → 1024 ≤ length m → length rapdus ≤ 1004 → {w1 w2 w3 : List ℕ} → w1 ≡ overwrite m 0 (0xAF ∷ 0x80 ∷ []) → w2 ≡ overwrite w1 2 rapdus → w3 ≡ overwrite w2 (2 + length rapdus) (0 ∷ 0 ∷ []) → (w3 ≡ overwrite m 0 (indefiniteAnswer rapdus)) × (2 + length rapdus + 2 ≡ length (indefiniteAnswer rapdus))
+pub indefinite-written : (m rapdus : List ℕ) → roomToAnswer ≤ length m → length rapdus ≤ roomToGather → {w1 w2 w3 : List ℕ} → w1 ≡ overwrite m 0 (0xAF ∷ 0x80 ∷ []) → w2 ≡ overwrite w1 2 rapdus → w3 ≡ overwrite w2 (2 + length rapdus) (0 ∷ 0 ∷ []) → (w3 ≡ overwrite m 0 (indefiniteAnswer rapdus)) × (2 + length rapdus + 2 ≡ length (indefiniteAnswer rapdus))
 unfolding indefiniteAnswer
 indefinite-written m rapdus room few h1 h2 h3 =
     let e2 = after m 0 (0xAF ∷ 0x80 ∷ []) rapdus h1 refl h2 (omega arith) in

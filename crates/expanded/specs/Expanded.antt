@@ -48,6 +48,10 @@ pub record Progress : Type 0 where
 abbrev pub roomToGather : ℕ
 roomToGather = mostKept + 4
 
+-- every answer finds room in as many bytes of response memory as number 4 asks for
+abbrev pub roomToAnswer : ℕ
+roomToAnswer = 1024
+
 -- the progress whose R-APDUs are gathered in a buffer
 unfoldable pub progressOf : Gathered → Card → List ℕ → Progress
 progressOf g card out =

@@ -11,7 +11,7 @@ ghost use Rattle.octets.specs.Bytes.{overwrite};
 ghost use Rattle.session.specs.Session.{mostWaiting};
 ghost use Rattle.command.specs.Outcomes.{wordOf, dataOf, dataCount};
 ghost use Rattle.command.specs.Promised.{OutcomeFits};
-ghost use Rattle.step.specs.Limits.{rapduSize};
+ghost use Rattle.step.specs.Limits.{longestScript, rapduSize};
 ghost use Rattle.expanded.specs.Expanded as spec;
 
 const RAPDU: u8 = 0x23;
@@ -70,7 +70,7 @@ pub fn put_count(out: &mut [u8], at: usize, n: usize) -> usize
 
 // The answer to AA is written to the front of the response memory; what comes out is its length.
 fn put_definite(response: &mut [u8], count: usize, rapdus: &[u8]) -> usize
-    requires { ⌜ (1024 ≤ length (now response)) × (length (now rapdus) ≤ spec.roomToGather) ⌝ }
+    requires { ⌜ (spec.roomToAnswer ≤ length (now response)) × (length (now rapdus) ≤ spec.roomToGather) ⌝ }
     ensures { λ r. ⌜ (now (response .exit) ≡ overwrite (now (response .entry)) 0 (spec.definiteAnswer count (now (rapdus .entry)))) × (r ≡ length (spec.definiteAnswer count (now (rapdus .entry)))) ⌝ }
 {
     let size = count_size(count);
@@ -84,7 +84,7 @@ fn put_definite(response: &mut [u8], count: usize, rapdus: &[u8]) -> usize
 
 // The answer to AE is written to the front of the response memory; what comes out is its length.
 fn put_indefinite(response: &mut [u8], rapdus: &[u8]) -> usize
-    requires { ⌜ (1024 ≤ length (now response)) × (length (now rapdus) ≤ spec.roomToGather) ⌝ }
+    requires { ⌜ (spec.roomToAnswer ≤ length (now response)) × (length (now rapdus) ≤ spec.roomToGather) ⌝ }
     ensures { λ r. ⌜ (now (response .exit) ≡ overwrite (now (response .entry)) 0 (spec.indefiniteAnswer (now (rapdus .entry)))) × (r ≡ length (spec.indefiniteAnswer (now (rapdus .entry)))) ⌝ }
 {
     let n = rapdus.len();
@@ -97,7 +97,7 @@ fn put_indefinite(response: &mut [u8], rapdus: &[u8]) -> usize
 // The answer is written to the front of the response memory, from the count of commands and the gathered R-APDUs; what comes out is
 // its length.
 pub fn put_answer(response: &mut [u8], definite: bool, count: usize, gathered: &[u8]) -> usize
-    requires { ⌜ (1024 ≤ length (now response)) × (length (now gathered) ≤ spec.roomToGather) × (count ≤ 1024) ⌝ }
+    requires { ⌜ (spec.roomToAnswer ≤ length (now response)) × (length (now gathered) ≤ spec.roomToGather) × (count ≤ longestScript) ⌝ }
     ensures { λ r. ⌜ (now (response .exit) ≡ overwrite (now (response .entry)) 0 (spec.answerBytes definite count (now (gathered .entry)))) × (r ≡ length (spec.answerBytes definite count (now (gathered .entry)))) ⌝ }
 {
     if definite {

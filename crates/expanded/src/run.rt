@@ -19,7 +19,7 @@ ghost use Rattle.card.specs.Row.{Card, lent};
 ghost use Rattle.journal.specs.Sound.{Starts};
 ghost use Rattle.command.specs.Outcomes.{wordOf, dataCount, goesOn};
 ghost use Rattle.command.specs.Promised.{OutcomeFits};
-ghost use Rattle.step.specs.Limits.{rapduSize, mostKept};
+ghost use Rattle.step.specs.Limits.{longestScript, rapduSize, mostKept};
 ghost use Rattle.expanded.specs.Expanded as spec;
 
 // The bytes that a script's R-APDUs are gathered in: 1,000, and the R-APDU of a last command without data.
@@ -129,9 +129,9 @@ pub fn run(
     files: &mut [u8],
     journal: &mut [u8],
 ) -> Gathered
-    requires { ⌜ (at ≤ end) × (end ≤ length (now script)) × (length (now script) ≤ 1024) × Starts (lent (now table) (now files) (now journal)) application × (length (now out) ≡ spec.roomToGather) ⌝ }
+    requires { ⌜ (at ≤ end) × (end ≤ length (now script)) × (length (now script) ≤ longestScript) × Starts (lent (now table) (now files) (now journal)) application × (length (now out) ≡ spec.roomToGather) ⌝ }
     ensures { λ r. ⌜ (spec.progressOf r (lent (now (table .exit)) (now (files .exit)) (now (journal .exit))) (now (out .exit)) ≡ spec.runFrom (length (now (script .entry))) (now (script .entry)) domain definite at end (spec.begun application (lent (now (table .entry)) (now (files .entry)) (now (journal .entry)))))
-        × (r .kept + r .last ≤ spec.roomToGather) × (r .step .count ≤ 1024) ⌝ }
+        × (r .kept + r .last ≤ spec.roomToGather) × (r .step .count ≤ longestScript) ⌝ }
 {
     let mut g = Gathered {
         step: Step {

@@ -98,9 +98,9 @@ unfoldable pub summed : ℕ → File → List ℕ → Standing → Plan → Plan
 summed i f «data» s plan = pick (sumTooLong i f «data») (failed s SumTooLong) plan
 
 -- a sum has no more bytes than can wait
-unfoldable pub Brief : Change → Type 0
-Brief Nothing = Unit
-Brief (Content start size offset) = Unit
-Brief (DataRecord r) = Unit
-Brief (SumRecord r) = r .«record_length» ≤ mostWaiting
-Brief (TableByte place new) = Unit
+unfoldable pub CostOfAsks : Change → Type 0
+CostOfAsks Nothing = Unit
+CostOfAsks (Content start size offset) = Unit
+CostOfAsks (DataRecord r) = Unit
+CostOfAsks (SumRecord r) = r .«record_length» ≤ mostWaiting
+CostOfAsks (TableByte place new) = Unit

@@ -3,7 +3,7 @@ use mathlib.Core.Path.{refl}
 use Prim.Native.Nat.{_+_}
 use native.Mathlib.Omega.{arith}
 use borrow.Author.Needs.{needs}
-use Rattle.plan.specs.Promised.{Brief}
+use Rattle.plan.specs.Promised.{CostOfAsks}
 use Rattle.decide.proofs.Costs.{costOf, known-cost, known-brief}
 use Rattle.decide.proofs.cost_of.Statement.{statement}
 use Rattle.decide.proofs.cost_of.Tie as tie
@@ -33,14 +33,14 @@ enum-known-change : tie.Need-enum-known-change
 enum-known-change c = search needs
 
 entry-bytes-requires-4 : tie.Need-entry-bytes-requires-4
-unfolding Brief
+unfolding CostOfAsks
 entry-bytes-requires-4 c κs = let at-change = c .before in omega (arith, known-brief (at-change .change .given .1) (at-change .before .before .pre .1))
 
 entry-bytes-requires-5 : tie.Need-entry-bytes-requires-5
 entry-bytes-requires-5 c κs = search needs
 
 add-result-2 : tie.Need-add-result-2
-unfolding Brief
+unfolding CostOfAsks
 add-result-2 c =
     let at-first = c .before in
     let at-change = at-first .before .before in

@@ -28,7 +28,7 @@ use Rattle.decide.specs.Decisions.{situation, planned}
 use Rattle.plan.specs.declared.Change.{Change}
 use Rattle.plan.specs.declared.Change.the-variants.{Nothing}
 use Rattle.plan.specs.declared.Decision.{Decision}
-use Rattle.plan.specs.Promised.{planOf, Fits, Brief}
+use Rattle.plan.specs.Promised.{planOf, Fits, CostOfAsks}
 use Rattle.decide.proofs.Costs.{fits-brief}
 use Rattle.decide.proofs.Plans.{form-fails, behind, behind-select, behind-response, none-known, unknown-fails, Fails, nothing-decided}
 use Rattle.decide.proofs.Passed.{able, own-formal, journal-parts, journal-inside, WithRoom, room-decided}
@@ -189,7 +189,7 @@ module _ (c : tie.After-room-of) where
   abbrev origin : tie.Start
   origin = start (known c)
 
-  roomy : (change : Change) → Fits (length (origin .args .table .now)) (length (origin .args .files .now)) (length (origin .args .«data» .now)) change → (length (origin .args .«data» .now) < 256) × (c .before .head-of .result .used < 65536) × (c .before .head-of .result .used ≤ c .room-of .result) × Brief change
+  roomy : (change : Change) → Fits (length (origin .args .table .now)) (length (origin .args .files .now)) (length (origin .args .«data» .now)) change → (length (origin .args .«data» .now) < 256) × (c .before .head-of .result .used < 65536) × (c .before .head-of .result .used ≤ c .room-of .result) × CostOfAsks change
   roomy change h = (
     origin .pre .0 .bytes .brief,
     c .before .head-of .ensures .1,
