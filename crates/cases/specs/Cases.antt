@@ -13,7 +13,7 @@ use Rattle.engine.specs.Worked.{worked, answerOf}
 use Rattle.lines.specs.Digits.{ascii, isScript, decoded, hexOf, decimal}
 use Rattle.lines.specs.Named.{lineFeed, space, named}
 
--- whether they are the hex digits of at most n bytes
+-- whether `ds` are the hex digits of at most `n` bytes
 unfoldable pub hexBytes : ℕ → List ℕ → Bool
 hexBytes n ds = leb (length ds) (2 * n) && isScript ds
 
@@ -38,7 +38,7 @@ ranOn application domain format journal script =
 unfoldable pub headAndUsed : List ℕ → List ℕ
 headAndUsed journal = take (4 + usedBytes journal) journal
 
--- a label with four values behind it
+-- a label with four values after it
 unfoldable pub labelled : List ℕ → ℕ → ℕ → List ℕ → List ℕ → List ℕ
 labelled label refusal executed response journal =
     label
@@ -46,7 +46,7 @@ labelled label refusal executed response journal =
     ++ (named (ascii "executed=") (decimal executed) space
     ++ (named (ascii "response=") (hexOf response) space ++ named (ascii "journal=") (hexOf journal) lineFeed)))
 
--- the most that a line has: 64 bytes of label, 36 of names, 4 behind the values, 20 digits of each number, and 2,048 and 4,096
+-- the most that a line has: 64 bytes of label, 36 of names, 4 after the values, 20 digits of each number, and 2,048 and 4,096
 abbrev pub mostInLine : ℕ
 mostInLine = 6288
 
@@ -55,7 +55,7 @@ unfoldable pub runLine : List ℕ → Result → List ℕ
 runLine label r =
     labelled label (r .answer .number) (r .answer .count) (answerOf r) (headAndUsed (r .card .journal))
 
--- the line of a case; the journal is zero behind the bytes that are given
+-- the line of a case; the journal is zero after the bytes that are given
 unfoldable pub caseLine : List ℕ → ℕ → ℕ → ℕ → List ℕ → List ℕ → List ℕ
 caseLine label application domain format journal script =
     runLine label (ranOn application domain format (overwrite (zeros 2048) 0 (decoded journal)) (decoded script))

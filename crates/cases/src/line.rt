@@ -13,7 +13,7 @@ ghost use Rattle.octets.specs.Bytes.{overwrite};
 ghost use Rattle.journal.specs.Entries.{usedBytes};
 ghost use Rattle.cases.specs.Cases as spec;
 
-// Whether they are the hex digits of at most n bytes.
+// Whether `digits` are the hex digits of at most `n` bytes.
 fn hex_bytes(n: usize, digits: &[u8]) -> bool
     requires { ⌜ n ≤ 2048 ⌝ }
     ensures { λ b. ⌜ b ≡ spec.hexBytes n (now (digits .entry)) ⌝ }
@@ -28,7 +28,7 @@ pub fn is_case(label: &[u8], journal: &[u8], script: &[u8]) -> bool
     (label.len() <= 64) & (hex_bytes(2048, journal) & hex_bytes(1024, script))
 }
 
-// Puts a label and four values at the start of `out`, and gives the number of bytes.
+// Puts a label and four values at the start of `out`. Returns how many bytes they have.
 fn put_labelled(
     out: &mut [u8],
     label: &[u8],
@@ -47,7 +47,7 @@ fn put_labelled(
     put_bytes(out, fourth, b"journal=", journal, b'\n')
 }
 
-// The number of a journal's bytes in its head and its entries, and of all its bytes where that is more.
+// Returns how many bytes a journal's head and entries have, or the whole journal where that would be more.
 fn in_use(journal: &[u8]) -> usize
     requires { ⌜ 4 ≤ length (now journal) ⌝ }
     ensures { λ r. ⌜ (r ≡ min (4 + usedBytes (now (journal .entry))) (length (now (journal .entry)))) × (r ≤ length (now (journal .entry))) ⌝ }
@@ -59,7 +59,7 @@ fn in_use(journal: &[u8]) -> usize
     n
 }
 
-// Runs a script on the worked card with another journal, puts the run's line at the start of `out`, and gives the number of bytes.
+// Runs a script on the worked card with another journal, and puts the run's line at the start of `out`. Returns how many bytes it has.
 fn put_run(
     out: &mut [u8],
     label: &[u8],
@@ -97,7 +97,7 @@ fn put_run(
     )
 }
 
-// Puts the line of a case at the start of `out`, and gives the number of bytes.
+// Puts the line of a case at the start of `out`. Returns how many bytes it has.
 pub fn put_case(
     out: &mut [u8],
     label: &[u8],

@@ -1,9 +1,9 @@
 // The cases. The decisions are those of docs/DECISIONS.md; S is `00A4000C027F10 00A4000C026F46`.
 use crate::show;
 
-// The cases that the paper gives by their bytes.
+// Prints the cases that the paper gives by their bytes.
 pub fn paper() {
-    // "2 transparent 6F46 in 1, start 0, length 17": two bytes do not fit at 16, and 17 is behind the end.
+    // "2 transparent 6F46 in 1, start 0, length 17": two bytes do not fit at 16, and 17 is after the end.
     show(
         b"S 00D60010020141",
         0,
@@ -43,7 +43,7 @@ pub fn paper() {
     );
 }
 
-// Which journals are sound, and the numbers 5 and 2.
+// Prints the cases of sound and unsound journals, and of the numbers 5 and 2.
 pub fn soundness() {
     // Decision 1: a journal entry's whole run lies inside its memory.
     show(
@@ -94,7 +94,7 @@ pub fn soundness() {
     show(b"application 261", 261, 0x00, 0, b"", b"00A4000C027F10");
 }
 
-// What is a template, and the mark of an accepted run.
+// Prints the cases of what is a template, and of the mark of an accepted run.
 pub fn templates() {
     // Decision 14: a length in its shortest form that runs exactly to the end, or `AE80 .. 0000`.
     show(b"AA0000", 0, 0x00, 1, b"", b"AA0000");
@@ -114,7 +114,7 @@ pub fn templates() {
     );
 }
 
-// Compact scripts.
+// Prints the cases of compact scripts.
 pub fn compact() {
     // Decision 18: whether a command carries data is decided by the instruction byte alone.
     show(b"80A4000C027F", 0, 0x00, 0, b"", b"80A4000C027F");
@@ -158,7 +158,7 @@ pub fn compact() {
     );
 }
 
-// SELECT.
+// Prints the cases of SELECT.
 pub fn selects() {
     // Decision 25: a directory's own identifier matches as a DF child of its parent.
     show(
@@ -184,7 +184,7 @@ pub fn selects() {
     show(b"SELECT, another P1", 0, 0x00, 0, b"", b"00A4010C027F10");
 }
 
-// Records: reading, updating and searching.
+// Prints the cases of records: reading, updating and searching.
 pub fn records() {
     // Decision 30: "(P1 00)" holds for next and for previous.
     show(
@@ -241,7 +241,7 @@ pub fn records() {
     );
 }
 
-// INCREASE and DEACTIVATE.
+// Prints the cases of INCREASE and DEACTIVATE.
 pub fn changes() {
     // Decision 36: fewer data bytes than the record are added at the right end, and come back as sent.
     show(
@@ -264,7 +264,7 @@ pub fn changes() {
     show(b"no current file", 0, 0x00, 0, b"", b"0004000000");
 }
 
-// The items of an expanded script, and where it ends.
+// Prints the cases of the items of an expanded script, and of where it ends.
 pub fn items() {
     // Decision 40: tag before length; too few bytes after 82 are 03, another length form is 02.
     show(b"AA0155", 0, 0x00, 1, b"", b"AA0155");
@@ -274,7 +274,7 @@ pub fn items() {
     show(b"AE8000000000", 0, 0x00, 1, b"", b"AE8000000000");
 }
 
-// The sizes of the commands in an expanded script.
+// Prints the cases of the sizes of the commands in an expanded script.
 pub fn sizes() {
     // Decision 42: size 6 with Lc 00 and Le 00 is case 4; another Le makes a bad size.
     show(b"Lc 00 and Le 00", 0, 0x00, 1, b"", b"AA082206002000010000");
@@ -314,7 +314,7 @@ pub fn sizes() {
     );
 }
 
-// Arguments that are refused, and the other access domain.
+// Prints the cases of arguments that are refused, and of the other access domain.
 pub fn arguments() {
     // Decision 49: each runs, and its refusal is printed.
     show(b"format 7", 0, 0x00, 7, b"", b"00A4000C027F10");

@@ -25,7 +25,7 @@ headerSize = 5
 unfoldable pub compactCase : ℕ → ℕ → ℕ → ℕ
 compactCase i p2 p3 = pick (eqb (caseOf i p2) 1 && not (eqb p3 0)) 2 (caseOf i p2)
 
--- how many data bytes stand behind a header
+-- how many data bytes stand after a header with the instruction `i` and `p3`
 unfoldable pub dataBehind : ℕ → ℕ → ℕ
 dataBehind i p3 = pick (carriesData i) p3 0
 
@@ -48,7 +48,7 @@ broken script =
       count = 0;
     }
 
--- a command of which header and data are there
+-- the command at the place `at` with the instruction `i`, whose header and `count` data bytes are there
 unfoldable pub wholeAt : List ℕ → ℕ → ℕ → ℕ → Reading
 wholeAt script at i count =
     record {
@@ -74,11 +74,11 @@ headedAt script at =
     let count : ℕ = dataBehind i (byte script (at + 4)) in
     pick (leb (at + headerSize + count) (length script)) (wholeAt script at i count) (broken script)
 
--- the command that stands at a place of a script
+-- the command that stands at the place `at` of a script
 unfoldable pub readAt : List ℕ → ℕ → Reading
 readAt script at = pick (leb (at + headerSize) (length script)) (headedAt script at) (broken script)
 
--- the place after it
+-- the place after a command that was read
 unfoldable pub placeAfter : Reading → ℕ
 placeAfter r = r .from + r .count
 
@@ -102,7 +102,7 @@ stepRead script domain r st = stepWith domain (r .command) (part script (r .from
 abbrev pub stepAt : List ℕ → ℕ → ℕ → State → State
 stepAt script domain at st = stepRead script domain (readAt script at) st
 
--- the state after the script's commands from a place on, n of them at most: a script ends where it has no more bytes, or
+-- the state after the script's commands from a place on, `n` of them at most: a script ends where it has no more bytes, or
 -- with a command whose word does not go on
 unfoldable pub runFrom : ℕ → List ℕ → ℕ → ℕ → State → State
 runFrom zero script domain at st = st

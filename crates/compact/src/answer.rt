@@ -10,7 +10,7 @@ ghost use Rattle.command.specs.Outcomes.{dataCount};
 ghost use Rattle.command.specs.Promised.{OutcomeFits};
 ghost use Rattle.compact.specs.Compact as spec;
 
-// The answer of a script's last step is written to the front of the response memory: count, status, data. Returns its length.
+// Writes the answer of a script's last step to the front of the response memory: count, status, data. Returns its length.
 pub fn put_answer(response: &mut [u8], step: Step, files: &[u8]) -> usize
     requires { ⌜ OutcomeFits (length (now files)) (step .outcome) × (step .count < 256) × (3 + dataCount (step .outcome) ≤ length (now response)) ⌝ }
     ensures { λ r. ⌜ (now (response .exit) ≡ overwrite (now (response .entry)) 0 (spec.answer step (now (files .entry)))) × (r ≡ length (spec.answer step (now (files .entry)))) ⌝ }

@@ -11,7 +11,7 @@ ghost use Rattle.compact.specs.Compact as spec;
 // "Five-byte headers"
 const HEADER_SIZE: usize = 5;
 
-// The case of a command: 04 and 44 with another P3 than 00 have the form of case 2.
+// Returns the case of a command: 04 and 44 with another P3 than 00 have the form of case 2.
 fn compact_case(i: usize, p2: usize, p3: usize) -> usize
     ensures { λ n. ⌜ n ≡ spec.compactCase i p2 p3 ⌝ }
 {
@@ -22,7 +22,7 @@ fn compact_case(i: usize, p2: usize, p3: usize) -> usize
     case
 }
 
-// How many data bytes stand behind a header.
+// Returns how many data bytes stand after a header with the instruction `i` and `p3`.
 fn data_behind(i: usize, p3: usize) -> usize
     ensures { λ n. ⌜ (n ≡ spec.dataBehind i p3) × (n ≤ p3) ⌝ }
 {
@@ -32,7 +32,7 @@ fn data_behind(i: usize, p3: usize) -> usize
     0
 }
 
-// What stands for a command with too few bytes.
+// Returns what stands for a command with too few bytes: one that is not whole, and takes the rest of the script.
 fn broken(script: &[u8]) -> Reading
     ensures { λ r. ⌜ r ≡ spec.broken (now (script .entry)) ⌝ }
 {
@@ -53,7 +53,7 @@ fn broken(script: &[u8]) -> Reading
     }
 }
 
-// A command of which header and data are there.
+// Returns the command at the place `at` whose header and `count` data bytes are there.
 fn whole_at(script: &[u8], at: usize, i: usize, count: usize) -> Reading
     requires { ⌜ (at + 5 + count ≤ length (now script)) ⌝ }
     ensures { λ r. ⌜ r ≡ spec.wholeAt (now (script .entry)) at i count ⌝ }
@@ -77,7 +77,7 @@ fn whole_at(script: &[u8], at: usize, i: usize, count: usize) -> Reading
     }
 }
 
-// The command that stands at a place of a script.
+// Returns the command that stands at the place `at` of a script.
 pub fn read_at(script: &[u8], at: usize) -> Reading
     requires { ⌜ at < length (now script) ⌝ }
     ensures { λ r. ⌜ (r ≡ spec.readAt (now (script .entry)) at) × spec.ReadingFits (now (script .entry)) at r ⌝ }

@@ -9,7 +9,7 @@ ghost use Prim.Native.Nat.{_<_};
 ghost use lib.ListN.{length};
 ghost use Rattle.compact.specs.Compact as spec;
 
-// The command that stands at a reader's place.
+// Returns the command that stands at a reader's place.
 fn reading_of<'a>(r: Reader<'a>) -> Reading
     requires { ⌜ r .at < length (now (r .script)) ⌝ }
     ensures { λ c. ⌜ (c ≡ spec.readAt (now (r .entry .script)) (r .entry .at)) × spec.ReadingFits (now (r .entry .script)) (r .entry .at) c ⌝ }
@@ -17,7 +17,7 @@ fn reading_of<'a>(r: Reader<'a>) -> Reading
     read_at(r.script, r.at)
 }
 
-// The command that a reader finds at a place of a script.
+// Returns the command that a reader finds at the place `at` of a script.
 pub fn next_reading(script: &[u8], at: usize) -> Reading
     requires { ⌜ at < length (now script) ⌝ }
     ensures { λ c. ⌜ (c ≡ spec.readAt (now (script .entry)) at) × spec.ReadingFits (now (script .entry)) at c ⌝ }

@@ -16,7 +16,7 @@ ghost use Rattle.step.specs.Steps.{stateOf};
 ghost use Rattle.step.specs.Promised.{RunCommandAsks};
 ghost use Rattle.compact.specs.Compact as spec;
 
-// A script's step after a command that was read.
+// Runs a command that was read. Returns the script's step after it.
 fn step_read(
     script: &[u8],
     domain: usize,
@@ -48,7 +48,7 @@ fn step_read(
     )
 }
 
-// A whole script of an application on a sound card with the script's mark: returns the script's last step.
+// Runs a whole script of an application on a sound card with the script's mark. Returns the script's last step.
 pub fn run(
     script: &[u8],
     application: usize,

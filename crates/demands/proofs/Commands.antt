@@ -1,4 +1,8 @@
--- The commands of a script one by one: a run leaves what the last command that runs leaves, and counts those that run. Assumes nothing.
+-- The commands of a script one by one: a run leaves what the last command that runs leaves, and counts those that run.
+-- The definition of a run reads a command and does it, round by round; here the commands are a list that is read first, with no card,
+-- and done one after the other while they go on. Both look at the same place with the same test, so they agree by induction on the
+-- number of rounds: `run-ends` for commands, `pieces-end` for the pieces of a template, where `by-test` and `by-item` compare two
+-- choices way by way. Each command counts one, so the last state counts all that ran (`counted`). Assumes nothing.
 use Prim.Native.Nat.{ℕ, zero, suc, _+_}
 use mathlib.Core.Path.{_≡_, refl, ap, _∙_}
 use mathlib.Core.Bool.{Bool, true, false}

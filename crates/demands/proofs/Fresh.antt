@@ -1,4 +1,9 @@
--- A script starts afresh: a first command that works on a file finds none, ends with 6986, and changes nothing. Assumes nothing.
+-- A script starts afresh: a first command that works on a file finds none, ends with 6986, and changes nothing.
+-- At the start no file is current, and that a file is current is the first check after the formal ones: so a command that passes those
+-- and is neither SELECT nor GET RESPONSE fails there, whatever the card (`no-file`). Its word does not go on, so the script leaves
+-- what this one command leaves (`one-only`). The answer is then worked out: three bytes for a compact script; for an expanded one the
+-- only R-APDU, which stands in the answer whether it is kept or is the last (`either-counts`), in the form of the template
+-- (`template-answer`). Assumes nothing.
 use Prim.Native.Nat.{ℕ}
 use mathlib.Core.Path.{_≡_, refl, sym, ap, _∙_}
 use mathlib.Core.Bool.{Bool, true, false}

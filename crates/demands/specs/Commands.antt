@@ -38,7 +38,7 @@ pub record Read : Type 0 where
 unfoldable pub readIn : List ℕ → Reading → Read
 readIn bytes r = record { command = r .command; «data» = part bytes (r .from) (r .count) }
 
--- the commands of a script from a place on, from front to back, n of them at most: neither card nor session is looked at
+-- the commands of a script from a place on, from front to back, `n` of them at most: neither card nor session is looked at
 unfoldable pub commandsFrom : ℕ → List ℕ → ℕ → List Read
 commandsFrom zero script at = []
 commandsFrom (suc n) script at =
@@ -71,7 +71,7 @@ pub data Piece : Type 0 where
   capdu : List ℕ → Piece
   badFormat : ℕ → Piece
 
--- the pieces of a template's value from a place on, from front to back, n of them at most; nothing follows a bad format
+-- the pieces of a template's value from a place on, from front to back, `n` of them at most; nothing follows a bad format
 unfoldable pub piecesFrom : ℕ → List ℕ → ℕ → ℕ → List Piece
 piecesFrom zero script at end = []
 piecesFrom (suc n) script at end =

@@ -110,7 +110,7 @@ pub record Fresh (c : Card) (a : Arguments) : Type 0 where
 
 pub record Cyclic (m k : ℕ) : Type 0 where
   pub place : (r : ℕ) → cyclicPlace m k r ≡ (k + r - 1) % m
-  -- a file of so many records, with its newest there, has record r at that place
+  -- a file of `m` records, with its newest at the place `k`, has record `r` at that place
   pub inFile :
       (f : Row) (r : ℕ) → recordCount f ≡ m → f .newest ≡ k → recordOffset f r ≡ f .«record_length» * ((k + r - 1) % m)
   -- record 1 is the newest; records and places are one to one

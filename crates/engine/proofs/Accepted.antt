@@ -1,4 +1,9 @@
--- A run that meets no number: what it finds, what its script starts from, and that the run is its script. Assumes nothing.
+-- A run that meets no number: what it finds, what its script starts from, and that the run is its script.
+-- Where no number is given, all six tests have passed (`is-met`), and what is known of card and arguments is one of them taken apart:
+-- a sound card, an application that is the root of its files, a short script, and room for one more mark. A mark with room keeps the
+-- card sound (`mark-sound`) and puts a script on trial, so with it the card is one that a script starts from (`marked-starts`). The
+-- definition of a run is then its script's (`done`), which the format and the template single out: `compact-run`, `definite-run`,
+-- `indefinite-run`. Assumes nothing.
 use mathlib.Core.Path.{_≡_, sym, ap, _∙_}
 use mathlib.Core.Bool.{true, false, _&&_}
 use Prim.Native.Nat.{ℕ, _≤_, _<_}

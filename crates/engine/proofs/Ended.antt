@@ -1,4 +1,9 @@
--- What a script comes to at its end: its answer has room, and with it the result is the definition's. Assumes nothing.
+-- What a script comes to at its end: its answer has room, and with it the result is the definition's.
+-- The code's last step and memories are, by the contract of the run, the state that the definition ends in; so what is proved of that
+-- state holds of them. Compact: the data of the outcome lie in the memories (`outcome-inside`) and are few, and the count is a byte
+-- (`count-byte`). Expanded: the answer has at most ten bytes besides the R-APDUs (`answer-few`); kept bytes and last bytes stand one
+-- after the other in the buffer, so one first part of it is both (`take-add`). With the answer written as promised the result is the
+-- definition's (`compact-gives`, `value-gives`). Assumes nothing.
 use mathlib.Core.Path.{_≡_, sym, ap, subst, _∙_}
 use mathlib.Core.Bool.{Bool, true, false}
 use mathlib.Core.List.{List, _++_}

@@ -48,7 +48,7 @@ accepted st answer response =
 unfoldable pub unlessRefused : ℕ → Card → List ℕ → Result → Result
 unlessRefused number c response r = elim (eqb number 0) [ true ↦ r | false ↦ gives (numbered number) c response ]
 
--- the items of a template's value, from a place to its end, with the answer of the template's form
+-- what the items of a template's value give, from the place `at` to `end`, with the answer of the template's form
 unfoldable pub runValue : Bool → ℕ → ℕ → Arguments → Card → Result
 runValue definite at end a c =
     let p : Progress =
@@ -56,7 +56,7 @@ runValue definite at end a c =
     in
     accepted (p .state) (expanded.answerBytes definite (p .state .step .count) (p .kept ++ p .last)) (a .response)
 
--- a script of a format, on a card whose journal has the script's mark
+-- what a script of a format gives, on a card whose journal has the script's mark
 unfoldable pub runScript : Format → Arguments → Card → Result
 runScript Compact a c =
     let st : State = compact.run (a .script) (a .application) (a .domain) c in
@@ -66,7 +66,7 @@ runScript Expanded a c =
     let p : Progress = expanded.run template (a .script) (a .application) (a .domain) c in
     accepted (p .state) (expanded.answer template p) (a .response)
 
--- a run
+-- what a run gives: its number where one is given, and else its script on the card with the script's mark
 unfoldable pub run : Arguments → Card → Result
 run a c =
     unlessRefused (firstGiven (runRefusals c a)) c (a .response)

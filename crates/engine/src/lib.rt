@@ -18,7 +18,7 @@ pub struct Answer {
     pub count: usize,
 }
 
-// A number alone: length 0 and count 0.
+// Returns the answer of a number alone: length 0 and count 0.
 fn numbered(number: usize) -> Answer
     ensures { λ a. ⌜ a ≡ spec.numbered number ⌝ }
 {
@@ -29,7 +29,8 @@ fn numbered(number: usize) -> Answer
     }
 }
 
-// Runs a script.
+// Runs a script that no number refuses, and writes its answer to the front of `response`. Returns the number, the answer's length and
+// the count of commands.
 pub fn run(
     application: usize,
     domain: u8,
@@ -88,7 +89,7 @@ pub fn run(
     }
 }
 
-// Takes the newest script back.
+// Takes the newest script back where no number refuses it. Returns the number, with length 0 and count 0.
 pub fn take_back(table: &mut [u8], files: &mut [u8], journal: &mut [u8]) -> Answer
     ensures { λ a. ⌜ (spec.gives a (lent (now (table .exit)) (now (files .exit)) (now (journal .exit))) [] ≡ spec.takeBack (lent (now (table .entry)) (now (files .entry)) (now (journal .entry)))) × spec.Small a ⌝ }
 {
@@ -102,7 +103,7 @@ pub fn take_back(table: &mut [u8], files: &mut [u8], journal: &mut [u8]) -> Answ
     numbered(0)
 }
 
-// Confirms all scripts.
+// Confirms all scripts where no number refuses it. Returns the number, with length 0 and count 0.
 pub fn confirm(table: &mut [u8], files: &mut [u8], journal: &mut [u8]) -> Answer
     ensures { λ a. ⌜ (spec.gives a (lent (now (table .exit)) (now (files .exit)) (now (journal .exit))) [] ≡ spec.confirm (lent (now (table .entry)) (now (files .entry)) (now (journal .entry)))) × spec.Small a ⌝ }
 {

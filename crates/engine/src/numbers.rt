@@ -33,7 +33,7 @@ fn format_of(format: u8, script: &[u8]) -> Format
     Format::Expanded
 }
 
-// Returns how many bytes the response memory of a format has at least.
+// Returns how many bytes of response memory a format needs at least.
 fn least_response(format: Format) -> usize
     ensures { λ n. ⌜ n ≡ spec.leastResponse format ⌝ }
 {

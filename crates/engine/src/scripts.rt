@@ -11,7 +11,7 @@ ghost use Rattle.journal.specs.Changes.{withMark};
 ghost use Rattle.engine.specs.Calls as spec;
 ghost use Rattle.engine.specs.Promised.{RunScriptAsks};
 
-// Runs a compact script.
+// Sets the mark of a compact script, runs it, and writes its answer. Returns the number 0, the answer's length and the count of commands.
 pub fn run_compact(
     application: usize,
     domain: usize,
@@ -36,7 +36,8 @@ pub fn run_compact(
     }
 }
 
-// Runs the items of a template's value, from the place `at` to its end, with the answer of the template's form.
+// Sets the mark of an expanded script, runs the items of its template's value from the place `at` to `end`, and writes the answer of the
+// template's form. Returns the number 0, the answer's length and the count of commands.
 pub fn run_value(
     definite: bool,
     at: usize,

@@ -1,4 +1,9 @@
--- An expanded script between two items: what is left from here is the whole run. Assumes nothing.
+-- An expanded script between two items: what is left from here is the whole run.
+-- The definition `runFrom` counts its rounds down, and the code loops. `Going` says that for some count which is enough for the bytes
+-- that are left, the run from this place and progress is the whole run. The item at the place decides what `runFrom` does there, so
+-- one unfolding gives each case: `end-left`, `bad-left`, `stop-left`, `on-left`. An item takes at least a byte: so the count stays
+-- enough, and there are never more commands than bytes read. That card and session stay sound past a C-APDU is `script-capdu-holds`.
+-- Assumes nothing.
 use mathlib.Core.Path.{_≡_, refl, sym, ap, subst, _∙_}
 use mathlib.Core.Bool.{Bool, true, false}
 use mathlib.Core.List.{List}

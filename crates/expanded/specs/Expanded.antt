@@ -64,7 +64,7 @@ answered counts st kept r =
     (record { state = st; kept = kept ++ r; last = [] })
     (record { state = st; kept = kept; last = r })
 
--- the same in a buffer, where the R-APDU's n bytes stand behind those kept
+-- the same in a buffer, where the R-APDU's `n` bytes stand after the `kept` bytes
 unfoldable pub gatheredIn : Bool → Step → ℕ → ℕ → Gathered
 gatheredIn counts step kept n =
     pick counts
@@ -86,7 +86,7 @@ pub record StepCapduAsks (card : Card) (capdu : List ℕ) (before : Gathered) (o
   pub room : length out ≡ roomToGather
   pub made : length bytes ≡ mostWaiting
 
--- a C-APDU is run
+-- the progress after a C-APDU is run
 unfoldable pub stepCapdu : Bool → ℕ → List ℕ → Progress → Progress
 stepCapdu definite domain capdu p =
     let r : Reading = capduCommand capdu in
@@ -97,7 +97,7 @@ stepCapdu definite domain capdu p =
     in
     answered counts st (p .kept) (lastRapdu (st .step) (st .card .files))
 
--- a Bad format TLV: "It counts and stops."
+-- the progress after a Bad format TLV: "It counts and stops."
 unfoldable pub stepBad : ℕ → Progress → Progress
 stepBad code p =
     let step : Step = p .state .step in
@@ -111,7 +111,7 @@ stepBad code p =
       last = badFormat code;
     }
 
--- the progress after the items from a place on, n of them at most, in a value that ends at `end`
+-- the progress after the items from the place `at` on, `n` of them at most, in a value that ends at `end`
 unfoldable pub runFrom : ℕ → List ℕ → ℕ → Bool → ℕ → ℕ → Progress → Progress
 runFrom zero script domain definite at end p = p
 runFrom (suc n) script domain definite at end p =
@@ -126,7 +126,7 @@ runFrom (suc n) script domain definite at end p =
       | End ↦ p
     ]
 
--- before the first command
+-- the progress before the first command
 unfoldable pub begun : ℕ → Card → Progress
 begun application card = record { state = started application card; kept = []; last = [] }
 
@@ -142,7 +142,7 @@ run Missing script application domain card = begun application card
 unfoldable pub countBytes : ℕ → List ℕ
 countBytes n = pick (ltb n 0x80) (n ∷ []) (bytes2 n)
 
--- "AA answers AB, length, 80, length, count .., R-APDUs": what stands behind the first length, and the whole
+-- "AA answers AB, length, 80, length, count .., R-APDUs": what stands after the first length, and the whole
 unfoldable pub definiteBody : ℕ → List ℕ → List ℕ
 definiteBody count rapdus = 0x80 ∷ (lengthBytes (length (countBytes count)) ++ (countBytes count ++ rapdus))
 

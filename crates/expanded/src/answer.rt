@@ -1,4 +1,4 @@
-// Writing the answer: R-APDUs, Bad format TLVs and the count of commands. What comes out is the place after what was written.
+// Writing the answer: R-APDUs, Bad format TLVs and the count of commands.
 use command::Outcome;
 use command::ends::data_count;
 use command::ends::put_data;
@@ -24,7 +24,7 @@ const INDEFINITE: u8 = 0xAF;
 
 const COUNT: u8 = 0x80;
 
-// The R-APDU of an outcome is written at a place.
+// Writes the R-APDU of an outcome at the place `at`. Returns the place after it.
 pub fn put_rapdu(out: &mut [u8], at: usize, o: Outcome, files: &[u8], waiting: &[u8]) -> usize
     requires { ⌜ OutcomeFits (length (now files)) o × (length (now waiting) ≡ mostWaiting) × (at + rapduSize (dataCount o) ≤ length (now out)) ⌝ }
     ensures { λ r. ⌜ (now (out .exit) ≡ overwrite (now (out .entry)) at (spec.rapdu (dataOf o (now (files .entry)) (now (waiting .entry))) (wordOf o))) × (r ≡ at + rapduSize (dataCount o)) ⌝ }
@@ -36,7 +36,7 @@ pub fn put_rapdu(out: &mut [u8], at: usize, o: Outcome, files: &[u8], waiting: &
     end + 2
 }
 
-// A Bad format TLV is written at a place.
+// Writes the Bad format TLV of a code at the place `at`. Returns the place after it.
 pub fn put_bad(out: &mut [u8], at: usize, code: usize) -> usize
     requires { ⌜ (at + 3 ≤ length (now out)) × (code < 256) ⌝ }
     ensures { λ r. ⌜ (now (out .exit) ≡ overwrite (now (out .entry)) at (spec.badFormat code)) × (r ≡ at + length (spec.badFormat code)) ⌝ }
@@ -45,7 +45,7 @@ pub fn put_bad(out: &mut [u8], at: usize, code: usize) -> usize
     at + 3
 }
 
-// How many bytes the count of commands takes.
+// Returns how many bytes the count `n` of commands takes in the answer.
 fn count_size(n: usize) -> usize
     ensures { λ r. ⌜ (r ≡ length (spec.countBytes n)) × (r ≤ 2) ⌝ }
 {
@@ -55,7 +55,7 @@ fn count_size(n: usize) -> usize
     2
 }
 
-// The count of commands is written at a place, as shortest signed integer.
+// Writes the count `n` of commands at the place `at`, as shortest signed integer. Returns the place after it.
 pub fn put_count(out: &mut [u8], at: usize, n: usize) -> usize
     requires { ⌜ at + 2 ≤ length (now out) ⌝ }
     ensures { λ r. ⌜ (now (out .exit) ≡ overwrite (now (out .entry)) at (spec.countBytes n)) × (r ≡ at + length (spec.countBytes n)) ⌝ }
@@ -68,7 +68,7 @@ pub fn put_count(out: &mut [u8], at: usize, n: usize) -> usize
     at + 2
 }
 
-// The answer to AA is written to the front of the response memory; what comes out is its length.
+// Writes the answer to AA to the front of the response memory. Returns its length.
 fn put_definite(response: &mut [u8], count: usize, rapdus: &[u8]) -> usize
     requires { ⌜ (spec.roomToAnswer ≤ length (now response)) × (length (now rapdus) ≤ spec.roomToGather) ⌝ }
     ensures { λ r. ⌜ (now (response .exit) ≡ overwrite (now (response .entry)) 0 (spec.definiteAnswer count (now (rapdus .entry)))) × (r ≡ length (spec.definiteAnswer count (now (rapdus .entry)))) ⌝ }
@@ -82,7 +82,7 @@ fn put_definite(response: &mut [u8], count: usize, rapdus: &[u8]) -> usize
     from + rapdus.len()
 }
 
-// The answer to AE is written to the front of the response memory; what comes out is its length.
+// Writes the answer to AE to the front of the response memory. Returns its length.
 fn put_indefinite(response: &mut [u8], rapdus: &[u8]) -> usize
     requires { ⌜ (spec.roomToAnswer ≤ length (now response)) × (length (now rapdus) ≤ spec.roomToGather) ⌝ }
     ensures { λ r. ⌜ (now (response .exit) ≡ overwrite (now (response .entry)) 0 (spec.indefiniteAnswer (now (rapdus .entry)))) × (r ≡ length (spec.indefiniteAnswer (now (rapdus .entry)))) ⌝ }
@@ -94,8 +94,7 @@ fn put_indefinite(response: &mut [u8], rapdus: &[u8]) -> usize
     2 + n + 2
 }
 
-// The answer is written to the front of the response memory, from the count of commands and the gathered R-APDUs; what comes out is
-// its length.
+// Writes the answer to the front of the response memory, from the count of commands and the gathered R-APDUs. Returns its length.
 pub fn put_answer(response: &mut [u8], definite: bool, count: usize, gathered: &[u8]) -> usize
     requires { ⌜ (spec.roomToAnswer ≤ length (now response)) × (length (now gathered) ≤ spec.roomToGather) × (count ≤ longestScript) ⌝ }
     ensures { λ r. ⌜ (now (response .exit) ≡ overwrite (now (response .entry)) 0 (spec.answerBytes definite count (now (gathered .entry)))) × (r ≡ length (spec.answerBytes definite count (now (gathered .entry)))) ⌝ }

@@ -7,7 +7,7 @@ ghost use lib.ListN.{length};
 ghost use Rattle.octets.specs.Bytes.{byte};
 ghost use Rattle.expanded.specs.Capdu as spec;
 
-// The byte behind the header: P3, Le or Lc; 0 where there is none.
+// Returns the byte after the header: P3, Le or Lc; 0 where there is none.
 fn fifth(capdu: &[u8]) -> usize
     ensures { λ b. ⌜ (b ≡ byte (now (capdu .entry)) 4) × (b < 256) ⌝ }
 {
@@ -17,7 +17,7 @@ fn fifth(capdu: &[u8]) -> usize
     0
 }
 
-// The case by the size, and 0 for no case's size.
+// Returns the case of a C-APDU by its size, and 0 for no case's size.
 fn case_by_size(capdu: &[u8]) -> usize
     requires { ⌜ 4 ≤ length (now capdu) ⌝ }
     ensures { λ n. ⌜ (n ≡ spec.caseBySize (now (capdu .entry))) × (3 ≤ n → 5 + byte (now (capdu .entry)) 4 ≤ length (now (capdu .entry))) ⌝ }
@@ -39,7 +39,7 @@ fn case_by_size(capdu: &[u8]) -> usize
     0
 }
 
-// The command that a C-APDU is, and where its data lie in it.
+// Returns the command that a C-APDU is, and where its data lie in it.
 pub fn command_of(capdu: &[u8]) -> Reading
     requires { ⌜ 4 ≤ length (now capdu) ⌝ }
     ensures { λ r. ⌜ (r ≡ spec.capduCommand (now (capdu .entry))) × spec.CapduFits (now (capdu .entry)) r ⌝ }

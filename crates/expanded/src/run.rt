@@ -26,21 +26,22 @@ ghost use Rattle.expanded.specs.Expanded as spec;
 pub const ROOM_TO_GATHER: usize = 1004;
 
 // A script after some commands whose R-APDUs are gathered in a lent buffer: its step, how many of the bytes are kept, and how many
-// behind these stand there for the last command.
+// after these stand there for the last command.
 pub struct Gathered {
     pub step: Step,
     pub kept: usize,
     pub last: usize,
 }
 
-// Whether the R-APDU of a command of a case is kept.
+// Whether the R-APDU of a command of a case is kept: each under AE, and those of cases 2 and 4 under AA.
 fn keeps(definite: bool, case: usize) -> bool
     ensures { λ b. ⌜ b ≡ spec.keeps definite case ⌝ }
 {
     !definite | ((case == 2) | (case == 4))
 }
 
-// The R-APDU of a script's last command is gathered behind those kept.
+// Writes the R-APDU of a script's last command after the `kept` bytes. Returns the script with it, among those kept where it counts and
+// else as the last.
 fn gather(counts: bool, step: Step, kept: usize, out: &mut [u8], files: &[u8]) -> Gathered
     requires { ⌜ OutcomeFits (length (now files)) (step .outcome) × (kept + rapduSize (dataCount (step .outcome)) ≤ length (now out)) ⌝ }
     ensures { λ r. ⌜ (now (out .exit) ≡ overwrite (now (out .entry)) kept (spec.lastRapdu step (now (files .entry)))) × (length (spec.lastRapdu step (now (files .entry))) ≡ rapduSize (dataCount (step .outcome))) × (r ≡ spec.gatheredIn counts step kept (rapduSize (dataCount (step .outcome)))) ⌝ }
@@ -62,7 +63,7 @@ fn gather(counts: bool, step: Step, kept: usize, out: &mut [u8], files: &[u8]) -
     }
 }
 
-// A C-APDU is run, and its R-APDU is gathered.
+// Runs a C-APDU, and gathers its R-APDU. Returns the script after it.
 fn step_capdu(
     definite: bool,
     domain: usize,
@@ -100,7 +101,7 @@ fn step_capdu(
     gather(counts, step, kept, out, files)
 }
 
-// A Bad format TLV is gathered as the last command.
+// Gathers a Bad format TLV as the last command. Returns the script after it.
 fn step_bad(code: usize, before: Gathered, out: &mut [u8]) -> Gathered
     requires { ⌜ (code < 256) × (before .step .count < 65535) × (before .kept ≤ mostKept) × (length (now out) ≡ spec.roomToGather) ⌝ }
     ensures { λ r. ⌜ ((card : Card) → spec.progressOf r card (now (out .exit)) ≡ spec.stepBad code (spec.progressOf before card (now (out .entry)))) × (r .kept + r .last ≤ spec.roomToGather) ⌝ }
@@ -116,7 +117,8 @@ fn step_bad(code: usize, before: Gathered, out: &mut [u8]) -> Gathered
     }
 }
 
-// The items from a place to the end of a template's value are run, as a script of an application on a sound card with the script's mark.
+// Runs the items from the place `at` to the end of a template's value, as a script of an application on a sound card with the script's
+// mark. Returns the script at its end.
 pub fn run(
     script: &[u8],
     definite: bool,

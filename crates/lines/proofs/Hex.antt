@@ -1,4 +1,8 @@
--- Pairs of hex digits and the bytes that they stand for, read and written one by one. Assumes nothing.
+-- Pairs of hex digits and the bytes that they stand for, read and written one by one.
+-- For each loop over digits or bytes there is one law for a round and one for the end. What is left from a place on is what stands
+-- there and what is left from the next place on (`hex-next`, `bytes-next`, `signs-next`). For the loops that write, what is left,
+-- written after what has been written, is the whole: a round stores what stands at the place, which by `write-first` changes nothing
+-- of that (`bytes-goes-on`, `signs-goes-on`), and at the end nothing is left to write (`bytes-end`, `signs-end`). Assumes nothing.
 use mathlib.Core.Path.{_≡_, refl, sym, ap, _∙_}
 use mathlib.Core.Bool.{true, false, _&&_}
 use mathlib.Core.List.{List, [], _∷_}

@@ -23,7 +23,7 @@ sign n = pick (ltb n 10) (0x30 + n) (0x37 + n)
 unfoldable pub digit : ℕ → ℕ
 digit b = pick (leb 0x30 b && leb b 0x39) (b - 0x30) (pick (leb 0x41 b && leb b 0x46) (b - 0x37) 16)
 
--- the number of a run of digits in a base, behind digits that are n
+-- the number of a run of digits in a base, after digits whose number is `n`
 unfoldable pub numberFrom : ℕ → ℕ → List ℕ → Number
 numberFrom base n [] = Value n
 numberFrom base n (d ∷ ds) = elim (ltb (digit d) base) [ true ↦ numberFrom base (n * base + digit d) ds | false ↦ Bad ]
@@ -37,7 +37,7 @@ unfoldable pub NumberFits : ℕ → Number → Type 0
 NumberFits bound (Value n) = n < bound
 NumberFits bound Bad = Unit
 
--- whether each is a hex digit
+-- whether each of a run is a hex digit
 unfoldable pub allHex : List ℕ → Bool
 allHex [] = true
 allHex (d ∷ ds) = ltb (digit d) 16 && allHex ds
@@ -64,11 +64,11 @@ unfoldable pub hexOf : List ℕ → List ℕ
 hexOf [] = []
 hexOf (b ∷ bs) = sign (b / 16) ∷ sign (b % 16) ∷ hexOf bs
 
--- a number in decimal digits, its last k at most
+-- a number in decimal digits, its last `k` at most
 unfoldable pub decimalIn : ℕ → ℕ → List ℕ
 decimalIn zero n = []
 decimalIn (suc k) n = elim (ltb n 10) [ true ↦ sign n ∷ [] | false ↦ decimalIn k (n / 10) ++ (sign (n % 10) ∷ []) ]
 
--- a number in decimal digits, with no zero in front: n + 1 digits are always enough
+-- a number in decimal digits, with no zero in front: `n + 1` digits are always enough
 unfoldable pub decimal : ℕ → List ℕ
 decimal n = decimalIn (n + 1) n

@@ -15,7 +15,7 @@ pub enum Number {
 // "0 to 16,384 hex digits"
 const MOST_DIGITS: usize = 16384;
 
-// The number that a sign stands for, and 16 where it is no digit.
+// Returns the number that a sign stands for, and 16 where it is no digit.
 fn digit(b: u8) -> usize
     ensures { λ r. ⌜ r ≡ spec.digit b ⌝ }
 {
@@ -29,7 +29,7 @@ fn digit(b: u8) -> usize
     16
 }
 
-// The sign of a number below 16.
+// Returns the sign of a number below 16.
 fn sign(n: usize) -> u8
     requires { ⌜ n < 16 ⌝ }
     ensures { λ r. ⌜ r ≡ spec.sign n ⌝ }
@@ -40,7 +40,7 @@ fn sign(n: usize) -> u8
     (0x37 + n) as u8
 }
 
-// The number of a run of at most three digits in a base.
+// Returns the number of at most three digits in a base; bad where one of them is no digit of the base.
 pub fn number_of(digits: &[u8], base: usize) -> Number
     requires { ⌜ (length (now digits) ≤ 3) × (1 ≤ base) × (base ≤ 16) ⌝ }
     ensures { λ r. ⌜ (r ≡ spec.numberOf base (now (digits .entry))) × spec.NumberFits (base ^ length (now (digits .entry))) r ⌝ }
@@ -58,7 +58,7 @@ pub fn number_of(digits: &[u8], base: usize) -> Number
     Number::Value(n)
 }
 
-// Whether each is a hex digit.
+// Whether each of `digits` is a hex digit.
 fn all_hex(digits: &[u8]) -> bool
     ensures { λ r. ⌜ r ≡ spec.allHex (now (digits .entry)) ⌝ }
 {
@@ -72,14 +72,14 @@ fn all_hex(digits: &[u8]) -> bool
     true
 }
 
-// Whether they are the digits of a script.
+// Whether `digits` are those of a script: at most 16,384 hex digits, even in number.
 pub fn is_script(digits: &[u8]) -> bool
     ensures { λ r. ⌜ r ≡ spec.isScript (now (digits .entry)) ⌝ }
 {
     (digits.len() <= MOST_DIGITS) & ((digits.len() % 2 == 0) & all_hex(digits))
 }
 
-// The byte of two hex digits.
+// Returns the byte of two hex digits.
 fn pair(a: u8, b: u8) -> u8
     requires { ⌜ (spec.digit a < 16) × (spec.digit b < 16) ⌝ }
     ensures { λ r. ⌜ r ≡ spec.pair a b ⌝ }
@@ -87,7 +87,7 @@ fn pair(a: u8, b: u8) -> u8
     (digit(a) * 16 + digit(b)) as u8
 }
 
-// Puts the bytes of pairs of hex digits at the start of `out`, and gives their number.
+// Puts the bytes of pairs of hex digits at the start of `out`. Returns how many bytes they are.
 pub fn decode(digits: &[u8], out: &mut [u8]) -> usize
     requires { ⌜ (spec.allHex (now digits) ≡ true) × (length (now digits) ≤ 2 * length (now out)) ⌝ }
     ensures { λ r. ⌜ (now (out .exit) ≡ overwrite (now (out .entry)) 0 (spec.decoded (now (digits .entry)))) × (r ≡ length (spec.decoded (now (digits .entry)))) ⌝ }
@@ -101,7 +101,7 @@ pub fn decode(digits: &[u8], out: &mut [u8]) -> usize
     n
 }
 
-// Puts bytes at a place as pairs of hex digits.
+// Puts bytes at the place `at`, as pairs of hex digits.
 pub fn put_hex(out: &mut [u8], at: usize, bytes: &[u8])
     requires { ⌜ at + 2 * length (now bytes) ≤ length (now out) ⌝ }
     ensures { λ _. ⌜ now (out .exit) ≡ overwrite (now (out .entry)) at (spec.hexOf (now (bytes .entry))) ⌝ }
@@ -115,7 +115,7 @@ pub fn put_hex(out: &mut [u8], at: usize, bytes: &[u8])
     }
 }
 
-// Puts a number at a place in decimal digits, and gives the place behind it.
+// Puts a number at the place `at`, in decimal digits. Returns the place after it.
 pub fn put_decimal(out: &mut [u8], at: usize, n: usize) -> usize
     requires { ⌜ at + 20 ≤ length (now out) ⌝ }
     ensures { λ r. ⌜ ((k : ℕ) → n < k → (now (out .exit) ≡ overwrite (now (out .entry)) at (spec.decimalIn k n)) × (r ≡ at + length (spec.decimalIn k n))) ⌝ }

@@ -4,7 +4,7 @@ ghost use mathlib.Core.Path.{_≡_};
 ghost use lib.ListN.{length};
 ghost use Rattle.engine.specs.Worked.{worked};
 
-// The table's seven entries.
+// Returns the table: its seven entries.
 pub fn worked_table() -> [u8; 112]
     ensures { λ t. ⌜ (t ≡ worked .table) × (112 ≡ length t) ⌝ }
 {
@@ -16,7 +16,7 @@ pub fn worked_table() -> [u8; 112]
     table
 }
 
-// The file memory: the cyclic file's nine bytes are 00, all others FF.
+// Returns the file memory: the cyclic file's nine bytes are 00, all others FF.
 pub fn worked_files() -> [u8; 55]
     ensures { λ f. ⌜ (f ≡ worked .files) × (55 ≡ length f) ⌝ }
 {

@@ -5,6 +5,7 @@ use Rattle.card.specs.Row.{Card}
 use Rattle.engine.specs.declared.Answer.{Answer}
 use Rattle.engine.specs.Calls.{Result}
 
+-- an answer in one number
 unfoldable pub packed : Answer → ℕ
 packed a = a .number + (2 ^ 8 * a .count + 2 ^ 32 * a .length)
 
@@ -17,5 +18,6 @@ pub record Crossed : Type 0 where
 abbrev pub crosses : ℕ → Card → List ℕ → Crossed
 crosses sum card response = record { sum = sum; card = card; response = response }
 
+-- what a caller in C gets of a call's result
 unfoldable pub across : Result → Crossed
 across r = crosses (packed (r .answer)) (r .card) (r .response)

@@ -6,7 +6,7 @@ ghost use Rattle.card.specs.Row.{lent};
 ghost use Rattle.engine.specs.Calls as calls;
 ghost use Rattle.rfm.specs.Packed.{packed, crosses, across};
 
-// An answer in one number.
+// Returns an answer in one number.
 fn packed_answer(a: Answer) -> u64
     requires { ⌜ calls.Small a ⌝ }
     ensures { λ r. ⌜ r ≡ packed a ⌝ }
@@ -14,7 +14,7 @@ fn packed_answer(a: Answer) -> u64
     a.number as u64 + (256 * (a.count as u64) + 4294967296 * (a.length as u64))
 }
 
-// Runs a script.
+// Runs a script, with its answer at the front of `response`. Returns the call's number, count and length in one number.
 #[no_mangle]
 pub extern "C" fn rfm_run(
     table: &mut [u8],
@@ -42,7 +42,7 @@ pub extern "C" fn rfm_run(
     ))
 }
 
-// Takes the newest script back.
+// Takes the newest script back. Returns the call's number, count and length in one number.
 #[no_mangle]
 pub extern "C" fn rfm_take_back(table: &mut [u8], files: &mut [u8], journal: &mut [u8]) -> u64
     ensures { λ r. ⌜ crosses r (lent (now (table .exit)) (now (files .exit)) (now (journal .exit))) [] ≡ across (calls.takeBack (lent (now (table .entry)) (now (files .entry)) (now (journal .entry)))) ⌝ }
@@ -50,7 +50,7 @@ pub extern "C" fn rfm_take_back(table: &mut [u8], files: &mut [u8], journal: &mu
     packed_answer(engine::take_back(table, files, journal))
 }
 
-// Confirms all scripts.
+// Confirms all scripts. Returns the call's number, count and length in one number.
 #[no_mangle]
 pub extern "C" fn rfm_confirm(table: &mut [u8], files: &mut [u8], journal: &mut [u8]) -> u64
     ensures { λ r. ⌜ crosses r (lent (now (table .exit)) (now (files .exit)) (now (journal .exit))) [] ≡ across (calls.confirm (lent (now (table .entry)) (now (files .entry)) (now (journal .entry)))) ⌝ }

@@ -1,4 +1,10 @@
--- The data that a command hands out: they lie in the file memory after it, whose length it keeps, or in the waiting bytes; and only a command of case 2 or 4 has any. Assumes nothing.
+-- The data that a command hands out: they lie in the file memory after it, whose length it keeps, or in the waiting bytes; and only a
+-- command of case 2 or 4 has any.
+-- The plan fits the card (`planned-fit`): its writes lie in their memories, and such a write keeps every length (`perform-lengths`),
+-- so an outcome that fits the file memory before the command fits the one after it. That commands of other cases have no data goes by
+-- the plan: a command that fails a check has none; one that passes all has the case of its instruction, and `bare-by` goes through the
+-- instructions: each either has case 2 or 4, or its plan ends with no data. SELECT is of the one kind or the other by its P2
+-- (`bare-select`). Assumes nothing.
 use mathlib.Core.Path.{_≡_, refl, sym, ap, _∙_}
 use mathlib.Core.Bool.{Bool, true, false, _||_, false≢true}
 use mathlib.Core.List.{List, [], _∷_}

@@ -1,4 +1,10 @@
--- What the walks of `lent::step` and of `lent::run_step` share: a session and its waiting bytes where they lie, what is asked and said of a command, what its format, domain and command own, and the last bytes of the memories that are lent to be written. Assumes nothing.
+-- What the walks of `lent::step` and of `lent::run_step` share: a session and its waiting bytes where they lie, what is asked and said
+-- of a command, what its format, domain and command own, and the last bytes of the memories that are lent to be written.
+-- A session is two fields of one cell: where the script stands, and the waiting bytes. `lends-waiting` takes the bytes out of the cell
+-- and lends them as a slice for a lifetime; what is left of the cell takes any bytes back (`Without`), and once the lifetime is over
+-- `waiting-back` puts the slice's last bytes there. What is known of a session and what is known of its two fields give each other
+-- (`standing-is`, `waiting-is`, `session-is`). The steps at the end put together, or take apart, what the two contracts have in
+-- common. Assumes nothing.
 use mathlib.Core.Bool.{Bool}
 use mathlib.Core.Path.{_≡_, refl, sym, ap, subst}
 use Prim.Native.Nat.{ℕ, _+_, _<_, _^_}

@@ -10,8 +10,8 @@ use Rattle.command.specs.declared.Command.{Command}
 use Rattle.decide.specs.Promised.{DecideAsks}
 use Rattle.step.specs.Limits.{mostKept}
 
--- a command with lc data bytes may run on a card where a script stands so, with `before` bytes of R-APDUs kept and these bytes lent for
--- what it makes
+-- a command with `lc` data bytes may run on a card, for a script that stands at `s`, with `before` bytes of R-APDUs kept and `bytes` lent
+-- for what it makes
 pub record RunCommandAsks (card : Card) (s : Standing) (c : Command) (lc before : ℕ) (bytes : List ℕ) : Type 0 where
   pub ready : DecideAsks card s c lc
   pub kept : before ≤ mostKept

@@ -23,7 +23,7 @@ pub record Moved : Type 0 where
   pub outcome : Outcome
   pub card : Card
 
--- a plan is done, over a session's waiting bytes
+-- what a plan comes to that is done: its writes, with what it makes put to the front of the waiting bytes
 unfoldable pub carriedOut : Plan → List ℕ → Card → Moved
 carriedOut p waiting card =
     record {
@@ -48,7 +48,7 @@ started application card =
       card = card;
     }
 
--- one command more; "The count includes the command that stopped it."
+-- the state after one command more; "The count includes the command that stopped it."
 unfoldable pub stepped : State → Moved → State
 stepped st m =
     record {
@@ -60,7 +60,8 @@ stepped st m =
 abbrev pub movedTo : Session → Outcome → Card → Moved
 movedTo s outcome card = record { session = s; outcome = outcome; card = card }
 
--- what it comes to in a session, whether its R-APDU counts or not: its plan, held to the 1,000 bytes, is carried out
+-- what a command comes to in a session, with `kept` bytes of R-APDUs kept and its own counted or not: its plan, held to the 1,000
+-- bytes, is carried out
 abbrev pub commanded : Format → ℕ → Command → List ℕ → Session → ℕ → Bool → Card → Moved
 commanded format domain c «data» s kept counts card =
     carriedOut (limited kept counts (s .standing) (planned (situation format domain c «data» (s .standing) card))) (s .waiting) card

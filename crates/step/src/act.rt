@@ -54,7 +54,7 @@ fn write_record(
     );
 }
 
-// A change is done, with the command's data and what it made.
+// Does a change, with the command's data and what it made.
 pub fn perform(
     change: Change,
     data: &[u8],
@@ -104,7 +104,8 @@ pub struct Done {
     pub outcome: Outcome,
 }
 
-// A decision is done, with what the command made put to the front of the waiting bytes.
+// Does a decision, and puts what the command made to the front of the waiting bytes. Returns where the script stands after the command,
+// and how the command ended.
 pub fn carry_out(
     d: Decision,
     data: &[u8],

@@ -13,13 +13,14 @@ ghost use Rattle.card.specs.Row.{lent};
 ghost use Rattle.step.specs.Steps.{stateOf, stepped, movedTo, commanded};
 ghost use Rattle.step.specs.Promised as spec;
 
-// How a command ended, and how many there were with it.
+// How a command ended, and how many commands there were with it.
 pub struct Ended {
     outcome: Outcome,
     count: usize,
 }
 
-// One command on a card, with its data, after `count` others: the lent session moves on. Returns how the command ended, and the count.
+// Runs one command on a card, with its data, after `count` others: the lent session moves on. Returns how the command ended, and the
+// count with it.
 fn step(
     session: &mut Session,
     format: Format,
@@ -60,7 +61,7 @@ fn step(
     }
 }
 
-// One command on a card, with its data: returns the script's step after it.
+// Runs one command on a card, with its data. Returns the script's step after it.
 pub fn run_step(
     format: Format,
     domain: usize,

@@ -17,8 +17,8 @@ ghost use Rattle.session.specs.Session.{mostWaiting, sessionOf};
 ghost use Rattle.step.specs.Steps.{movedTo, commanded};
 ghost use Rattle.step.specs.Promised as spec;
 
-// One command on a card, with its data, from where a script stands, with `kept` bytes of R-APDUs kept and its own counted or not:
-// returns where the script stands after it, and how it ended. What it makes stands in `made` until it is done, and is then put to the
+// Runs one command on a card, with its data, from where a script stands, with `kept` bytes of R-APDUs kept and its own counted or not.
+// Returns where the script stands after it, and how it ended. What it makes stands in `made` until it is done, and is then put to the
 // front of the waiting bytes.
 pub fn run_command(
     format: Format,

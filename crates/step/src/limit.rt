@@ -17,7 +17,7 @@ ghost use Rattle.decide.specs.Promised.{Decided};
 
 const MOST_KEPT: usize = 1000;
 
-// How many bytes an R-APDU takes whose data are n bytes.
+// Returns how many bytes an R-APDU takes whose data are `n` bytes.
 pub fn rapdu_size(n: usize) -> usize
     requires { ⌜ n + 2 < 65536 ⌝ }
     ensures { λ r. ⌜ (r ≡ spec.rapduSize n) × (r ≤ n + 6) ⌝ }
@@ -25,7 +25,8 @@ pub fn rapdu_size(n: usize) -> usize
     1 + (length_size(n + 2) + (n + 2))
 }
 
-// What was decided, where so many bytes of R-APDUs are kept and this one counts or not.
+// Returns what was decided, held to the 1,000 bytes: a decision whose R-APDU counts, and would pass them after the `kept` bytes, becomes
+// a failure that changes nothing.
 pub fn limited(d: Decision, s: Standing, kept: usize, counts: bool) -> Decision
     requires { ⌜ (kept ≤ spec.mostKept) × (dataCount (d .outcome) ≤ mostData) ⌝ }
     ensures { λ r. ⌜ ((card : Card) («data» bytes : List ℕ) (plan : Plan) → Decided card «data» bytes plan d → Decided card «data» bytes (spec.limited kept counts s plan) r) ⌝ }

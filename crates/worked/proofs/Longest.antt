@@ -1,5 +1,9 @@
 -- An input of the right shape has at most 16,427 bytes, so the first 16,428 bytes of what stands on standard input, which `main`
--- reads, decide what is printed for all of it. Assumes nothing.
+-- reads, decide what is printed for all of it.
+-- A line that could be read has its name, a bounded number of digits and a line feed: so the next line begins at most that far on
+-- (`number-by`), and after the script's line the input ends (`script-by`). Added up over the four lines this is 16,427 (`longest`). So
+-- an input of more than 16,428 bytes is bad, and so are its first 16,428, which are still too many; any other input is read whole.
+-- Assumes nothing.
 use mathlib.Core.Path.{_≡_, refl, sym, ap, _∙_}
 use mathlib.Core.Logic.{⊎-elim}
 use mathlib.Core.List.{List}
@@ -37,7 +41,7 @@ before-by k place (number.Value n) h = h
 before-by k place number.Bad h = tt
 
 module _ (bs : List ℕ) where
-  -- a number of at most so many digits
+  -- a number of at most `most` digits
   module _ (base least most : ℕ) where
     number-in-by : (from to : ℕ) → NextBy (from + most + 1) (numberIn bs base least most (line.Value from to))
     unfolding numberIn

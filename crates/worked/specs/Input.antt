@@ -59,7 +59,7 @@ unfoldable pub FieldFits : ℕ → ℕ → Field → Type 0
 FieldFits bound size (field.Value n next) = (n < bound) × (next ≤ size + 1)
 FieldFits bound size field.Bad = Unit
 
--- the script's digits in the last line's value; nothing stands behind that line
+-- the script's digits in the last line's value; nothing stands after that line
 unfoldable pub scriptIn : List ℕ → Line → Line
 scriptIn bs (line.Value from to) =
     pick (ltb (to + 1) (length bs)) line.Bad (pick (isScript (part bs from (to - from))) (line.Value from to) line.Bad)
@@ -73,7 +73,7 @@ unfoldable pub ScriptFits : List ℕ → Line → Type 0
 ScriptFits bs (line.Value from to) = (from ≤ to) × (to ≤ length bs) × (isScript (part bs from (to - from)) ≡ true)
 ScriptFits bs line.Bad = Unit
 
--- what comes of a number that was read
+-- how the reading goes on after a number, and bad where none was read
 unfoldable pub then : Field → (ℕ → ℕ → Input) → Input
 then (field.Value n next) f = f n next
 then field.Bad f = input.Bad

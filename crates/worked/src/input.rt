@@ -34,7 +34,7 @@ pub enum Input {
     Bad,
 }
 
-// Where the line ends that a place is in.
+// Returns where the line ends that the place `from` is in.
 fn line_end(input: &[u8], from: usize) -> usize
     requires { ⌜ from ≤ length (now input) ⌝ }
     ensures { λ r. ⌜ (r ≡ spec.lineEnd (now (input .entry)) from) × (from ≤ r) × (r ≤ length (now (input .entry))) ⌝ }
@@ -49,7 +49,7 @@ fn line_end(input: &[u8], from: usize) -> usize
     at
 }
 
-// The line at a place, where it has the name.
+// Returns the line at the place `at`; bad where it has not the name.
 fn line_at(input: &[u8], at: usize, name: &[u8]) -> Line
     requires { ⌜ 1 ≤ length (now name) ⌝ }
     ensures { λ r. ⌜ (r ≡ spec.lineAt (now (input .entry)) at (now (name .entry))) × spec.LineFits (length (now (input .entry))) r ⌝ }
@@ -67,7 +67,7 @@ fn line_at(input: &[u8], at: usize, name: &[u8]) -> Line
     Line::Value(from, line_end(input, from))
 }
 
-// The number in the line at a place, where the line has the name and `least` to `most` digits of a base.
+// Returns the number in the line at the place `at`; bad where the line has not the name, or not `least` to `most` digits of the base.
 fn number_at(input: &[u8], at: usize, name: &[u8], base: usize, least: usize, most: usize) -> Field
     requires { ⌜ (1 ≤ length (now name)) × (most ≤ 3) × (1 ≤ base) × (base ≤ 16) ⌝ }
     ensures { λ r. ⌜ (r ≡ spec.numberAt (now (input .entry)) at (now (name .entry)) base least most) × spec.FieldFits (base ^ most) (length (now (input .entry))) r ⌝ }
@@ -87,7 +87,8 @@ fn number_at(input: &[u8], at: usize, name: &[u8], base: usize, least: usize, mo
     Field::Value(n, to + 1)
 }
 
-// The script's digits in the line at a place, which is the last.
+// Returns where the script's digits lie in the line at the place `at`; bad where another line stands there or more follows, or where they
+// are not the digits of a script.
 fn script_at(input: &[u8], at: usize) -> Line
     ensures { λ r. ⌜ (r ≡ spec.scriptAt (now (input .entry)) at) × spec.ScriptFits (now (input .entry)) r ⌝ }
 {
@@ -103,7 +104,7 @@ fn script_at(input: &[u8], at: usize) -> Line
     Line::Bad
 }
 
-// The four lines, in their order.
+// Returns what the four lines ask for, read in their order.
 pub fn input_of(input: &[u8]) -> Input
     ensures { λ r. ⌜ (r ≡ spec.inputOf (now (input .entry))) × spec.InputFits (now (input .entry)) r ⌝ }
 {

@@ -16,7 +16,7 @@ const MOST_READ: usize = 16428;
 // The bytes that are printed at most.
 const MOST_PRINTED: usize = 2172;
 
-// Puts what is printed for an input at the start of `out`, and gives the number of its bytes.
+// Puts what is printed for an input at the start of `out`. Returns how many bytes it has.
 fn print(input: &[u8], out: &mut [u8]) -> usize
     requires { ⌜ mostPrinted ≤ length (now out) ⌝ }
     ensures { λ r. ⌜ (now (out .exit) ≡ overwrite (now (out .entry)) 0 (printed (now (input .entry)))) × (r ≡ length (printed (now (input .entry)))) × (r ≤ mostPrinted) ⌝ }

@@ -8,7 +8,7 @@ ghost use Rattle.octets.specs.Bytes.{overwrite};
 ghost use Rattle.journal.specs.Entries.{usedBytes, scriptsOnTrial};
 ghost use Rattle.worked.specs.Printed as spec;
 
-// Puts the five lines at the start of `out`, and gives the place behind them.
+// Puts the five lines at the start of `out`. Returns the place after them.
 pub fn put_lines(
     out: &mut [u8],
     refusal: usize,
@@ -27,7 +27,7 @@ pub fn put_lines(
     put_number(out, fifth, b"scripts=", octets::wide(head.scripts), b'\n')
 }
 
-// Puts the one line for an input of another shape at the start of `out`, and gives the place behind it.
+// Puts the one line for an input of another shape at the start of `out`. Returns the place after it.
 pub fn put_bad(out: &mut [u8]) -> usize
     requires { ⌜ spec.mostPrinted ≤ length (now out) ⌝ }
     ensures { λ r. ⌜ (now (out .exit) ≡ overwrite (now (out .entry)) 0 spec.badLine) × (r ≡ length spec.badLine) × (r ≤ spec.mostPrinted) ⌝ }

@@ -9,7 +9,7 @@ ghost use lib.ListN.{length};
 ghost use Rattle.octets.specs.Bytes.{overwrite};
 ghost use Rattle.worked.specs.Printed.{mostPrinted, ranOn, resultLines};
 
-// Runs a script on the worked card, puts the run's five lines at the start of `out`, and gives the place behind them.
+// Runs a script on the worked card, and puts the run's five lines at the start of `out`. Returns the place after them.
 pub fn put_run(call: Call, script: &[u8], out: &mut [u8]) -> usize
     requires { ⌜ mostPrinted ≤ length (now out) ⌝ }
     ensures { λ r. ⌜ (now (out .exit) ≡ overwrite (now (out .entry)) 0 (resultLines (ranOn call (now (script .entry))))) × (r ≡ length (resultLines (ranOn call (now (script .entry))))) × (r ≤ mostPrinted) ⌝ }

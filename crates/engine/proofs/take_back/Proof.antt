@@ -1,4 +1,8 @@
--- `engine::take_back` meets its contract: each `return` is a case of `takeBack`. Assumes nothing.
+-- `engine::take_back` meets its contract: each `return` is a case of `takeBack`.
+-- The two tests are those of the numbers 1 and 7, in their order. Past the first the card is sound (`sound`), and the head that is
+-- read says how many scripts are on trial (`scripts`); past the second there is one (`some`). These two facts are what the take-back
+-- of the journal asks. The three ends are the three cases of the definition: `back-unsound`, `back-none`, `back-done`.
+-- Assumes nothing.
 use mathlib.Core.Path.{_≡_, sym, ap, _∙_}
 use mathlib.Core.Bool.{true}
 use mathlib.Core.List.{[]}

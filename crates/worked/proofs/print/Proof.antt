@@ -1,4 +1,8 @@
--- `worked::print` meets its contract: what is printed is that of the input's shape. Assumes nothing.
+-- `worked::print` meets its contract: what is printed is that of the input's shape.
+-- There are two ways. For an input of another shape the one line is put, and it is what the definition prints (`printed-bad`). Else
+-- the script's digits lie in the input (`input-lies`) and are hex digits of at most 8,192 bytes (`script-bytes`), so they may be
+-- decoded; the first bytes of the buffer are then the script (`taken`), and the lines of its run are what the definition prints
+-- (`printed-run`). Assumes nothing.
 use mathlib.Core.Path.{sym, ap, _∙_}
 use Prim.Native.Nat.{ℕ}
 use mathlib.Core.List.{List}

@@ -1,4 +1,8 @@
--- `cases::line::put_run` meets its contract: what the run gives is what is put. Assumes nothing.
+-- `cases::line::put_run` meets its contract: what the run gives is what is put.
+-- The table and the file memory that are made are those of the worked card, so what the engine promises is a run on that card with the
+-- lent journal (`ran`). The answer's length is at most that of the response memory (`answer-fits`), and `in_use` promises the like for
+-- the journal, so both first parts may be lent and put. A label with the run's numbers and these bytes is the line of the run
+-- (`run-line`). Assumes nothing.
 use mathlib.Core.Path.{sym, ap, _∙_}
 use lib.ListN.{length}
 use lib.Seq.{length-take-le}

@@ -1,4 +1,9 @@
--- `compact::run::run` meets its contract: between two commands what is left from here is the whole run. Assumes nothing.
+-- `compact::run::run` meets its contract: between two commands what is left from here is the whole run.
+-- The loop's invariant: all memories keep their lengths, and the script is going (`Going`), that is, the commands from `at` on make of
+-- the step so far what the whole script makes of its start. The measure is the number of bytes that are left. One round past a command
+-- that goes on is the law `goes`: what was read ends inside the script and further on, so the measure falls. The two ways out are
+-- `stops` (a command whose word ends the script) and `ends` (no bytes are left). There are never more commands than bytes read, so the
+-- count stays small. Assumes nothing.
 use mathlib.Core.Path.{_≡_, refl, sym, ap, _∙_}
 use Prim.Native.Nat.{_-_}
 use native.Mathlib.Omega.{arith}

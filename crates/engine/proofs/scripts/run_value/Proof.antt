@@ -1,4 +1,9 @@
--- `engine::scripts::run_value` meets its contract: with its mark the card is one that a script starts from. Assumes nothing.
+-- `engine::scripts::run_value` meets its contract: with its mark the card is one that a script starts from.
+-- The contract asks for a card that a script can start from once it has the mark, and the mark that is set makes the lent memories
+-- that card (`begins`), so the items may be run. The run promises that the gathered bytes fit the buffer of 1,004, and a count of at
+-- most 1,024: with the 1,024 bytes of response memory that is what `put_answer` asks. What the run and the answer promise together is
+-- the definition's result on the card with its mark (`value-gives`, `with-mark`). The points of the walk, each from the one after it:
+-- `ran`, `marked`, `start`. Assumes nothing.
 use mathlib.Core.Path.{sym, ap, _∙_}
 use Prim.Native.Nat.{_+_}
 use native.Mathlib.Omega.{arith}

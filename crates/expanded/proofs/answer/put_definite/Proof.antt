@@ -1,4 +1,7 @@
--- `expanded::answer::put_definite` meets its contract: the answer's parts are written one behind another. Assumes nothing.
+-- `expanded::answer::put_definite` meets its contract: the answer's parts are written one behind another.
+-- The parts are the tag, the length, the count's tag and length, the count, and the R-APDUs. Each is written at the place where the
+-- one before it ended, so the five writes are one write of the answer (`definite-written`). There is always room: a length takes at
+-- most three bytes (`few`), the count at most two, the R-APDUs at most 1,004, and the response memory has 1,024. Assumes nothing.
 use native.Mathlib.Omega.{arith}
 use Prim.Native.Nat.{_+_, _≤_}
 use lib.ListN.{length}

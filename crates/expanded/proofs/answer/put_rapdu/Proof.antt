@@ -1,4 +1,8 @@
--- `expanded::answer::put_rapdu` meets its contract: tag, length, data and status are written one behind another. Assumes nothing.
+-- `expanded::answer::put_rapdu` meets its contract: tag, length, data and status are written one behind another.
+-- Each part is written at the place where the one before it ended, so the four writes are one write of the R-APDU (`rapdu-written`).
+-- Where the data begin is said once (`from`): after the tag and the length, which counts the data and the two bytes of the status. The
+-- room that was asked for covers all four parts, and the numbers stay small since an outcome has few data (`data-few`). The data that
+-- are written are as many as the outcome counts (`data-length`). Assumes nothing.
 use mathlib.Core.Path.{_≡_, sym, ap, _∙_}
 use Prim.Native.Nat.{ℕ, _+_}
 use native.Mathlib.Omega.{arith}

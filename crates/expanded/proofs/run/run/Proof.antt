@@ -1,4 +1,9 @@
--- `expanded::run::run` meets its contract: between two items what is left from here is the whole run. Assumes nothing.
+-- `expanded::run::run` meets its contract: between two items what is left from here is the whole run.
+-- The loop's invariant: all memories keep their lengths, and the script is going (`Going`), that is, the items from `place` on make of
+-- the progress so far what the whole script makes of its start. The measure is the number of bytes from `place` to `end`. One round
+-- past a C-APDU that goes on is the law `goes`; the three ways out are `stops` (a C-APDU whose word ends the script), `breaks` (a Bad
+-- format TLV) and `ends` (no item is left). Each says the promise for the whole run; the count is at most `end`, so at most 1,024.
+-- Assumes nothing.
 use mathlib.Core.Path.{_≡_, refl, sym, ap, _∙_}
 use Prim.Native.Nat.{_-_}
 use native.Mathlib.Omega.{arith}

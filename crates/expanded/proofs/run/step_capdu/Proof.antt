@@ -1,4 +1,9 @@
--- `expanded::run::step_capdu` meets its contract: the command is run under the 1,000-byte rule, and its R-APDU is gathered. Assumes nothing.
+-- `expanded::run::step_capdu` meets its contract: the command is run under the 1,000-byte rule, and its R-APDU is gathered.
+-- `command_of` promises a command of bytes whose data lie in the C-APDU; with what was asked of card and session that is what
+-- `run_step` asks. What `run_step` promises tells of the outcome (`told`) that its data lie where they are read from, that its R-APDU
+-- has room behind those kept, and that one that is kept stays within 1,000 bytes if the script goes on. So `gather` may write it, and
+-- what stands then is the progress of the definition (`stands`). The points of the walk, each from the one after it: `ran`, `kept`,
+-- `taken`, `start`. Assumes nothing.
 use mathlib.Core.Path.{_≡_, sym}
 use mathlib.Core.Bool.{true}
 use Prim.Native.Nat.{_+_, _≤_}

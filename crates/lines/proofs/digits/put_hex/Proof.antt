@@ -1,4 +1,7 @@
--- `lines::digits::put_hex` meets its contract. The loop's invariant: with the signs of the rest written behind those of the first i bytes, all are written. Assumes nothing.
+-- `lines::digits::put_hex` meets its contract: each byte is written as its two signs.
+-- The loop's invariant: with the signs of the rest written behind those of the first i bytes, all are written. With i at 0 the rest is
+-- all there is; a round stores the two signs of one byte, which are the first of the rest (`signs-goes-on`); at the end the rest is
+-- empty (`signs-end`), so all are written. The measure is the number of bytes that are left. Assumes nothing.
 use mathlib.Core.Path.{_≡_, refl, sym, ap, _∙_}
 use Prim.Native.Nat.{ℕ, _+_, _*_, _/_, _%_, _-_, _≤_}
 use native.Mathlib.Nat.{add-zero}

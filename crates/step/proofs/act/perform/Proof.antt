@@ -1,4 +1,9 @@
--- `step::act::perform` meets its contract: in each arm, what the change's fitting tells of it, and then its writes. Assumes nothing.
+-- `step::act::perform` meets its contract: in each arm, what the change's fitting tells of it, and then its writes.
+-- In an arm the change is known, and with it what was asked of it: its places lie in the memories (`fits`), and the journal has room
+-- for its entries (`left`). That, and the head that was just read from the journal, is what `write` and `write_record` ask. What they
+-- leave is one write (`one-write`, `table-write`) or the two of a record, and `steps` goes back from the writes of the known change to
+-- those of the one that was asked for. A sum is the first bytes of what was made, which are as many as a record has (`sum-long`).
+-- Assumes nothing.
 use mathlib.Core.Path.{_≡_, refl, sym}
 use Prim.Native.Nat.{_+_, _≤_}
 use native.Mathlib.Omega.{arith}

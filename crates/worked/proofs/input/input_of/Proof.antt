@@ -1,4 +1,8 @@
--- `worked::input::input_of` meets its contract: each line that is read is the next of `inputOf`. Assumes nothing.
+-- `worked::input::input_of` meets its contract: each line that is read is the next of `inputOf`.
+-- The code and `inputOf` read the same four lines in the same order. Every way out knows what each reading before it gave; put into
+-- `inputOf` one after the other, these lead to the same end there: bad at the first line that could not be read, and a run where all
+-- four could. A domain of two hex digits and a format of one decimal digit fit a byte (`field-small`). That the script's digits lie in
+-- the input is what `script_at` promises. Assumes nothing.
 use mathlib.Core.Path.{sym, _∙_}
 use Rattle.lines.specs.Digits.{ascii}
 use Rattle.worked.specs.Input.{inputOf, then, runOf, ScriptFits, InputFits}

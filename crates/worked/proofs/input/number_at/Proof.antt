@@ -1,4 +1,8 @@
--- `worked::input::number_at` meets its contract: each `return` is a case of `numberAt`. Assumes nothing.
+-- `worked::input::number_at` meets its contract: each `return` is a case of `numberAt`.
+-- The tests stand in the order of the definition: the line is there, it has `least` digits or more, `most` or fewer, and all are
+-- digits of the base. A way out knows the tests before it and its own: `number-short` and `number-long` for the lengths, `number-read`
+-- where the digits were read, good or bad. A line that was found lies in the input (`line-lies`), so its part may be taken; and a
+-- number of at most `most` digits is below the base to the power of `most` (`few-digits`). Assumes nothing.
 use mathlib.Core.Path.{sym, _∙_}
 use Rattle.lines.specs.Digits.{NumberFits}
 use Rattle.worked.specs.Input.{numberAt, numberIn, before, FieldFits}

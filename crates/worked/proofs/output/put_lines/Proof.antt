@@ -1,4 +1,8 @@
--- `worked::output::put_lines` meets its contract: the five lines are written one behind the other. Assumes nothing.
+-- `worked::output::put_lines` meets its contract: the five lines are written one behind the other.
+-- Each line is put at the place where the one before it ended, so the five are one run of bytes from the start on (`behind`). What the
+-- journal's head says of used bytes and scripts is what the definition counts (`own-used`, `own-scripts`). Every line promises how
+-- long it is at most, and these bounds together are what `out` has room for. The points `first`, `second` and `third` are where the
+-- first three lines are put. Assumes nothing.
 use mathlib.Core.Path.{ap₂, _∙_}
 use Prim.Native.Nat.{ℕ, _≤_}
 use native.Mathlib.Nat.{zero-add}
