@@ -1,4 +1,9 @@
--- Soundness is kept when the byte of an entry's newest record, or of its state, gets a value that is sound there; and it knows file memory by its length alone. Assumes nothing.
+-- Soundness is kept when the byte of an entry's newest record, or of its state, gets a value that is sound there; and it knows file
+-- memory by its length alone.
+-- Tables are compared by `Rows`: their rows are the same but for these two bytes. The rules of where an entry stands and those of
+-- pairs do not look at the two bytes (`stands-same`, `pair-same`), so such a table is sound where each of its rows is sound by
+-- itself (`rows-sound`). A new byte 9 or 10 of entry e changes no other row (`row-other`) and no other field of its own
+-- (`row-here`), so the own rules of that row are all that is left to show (`own-kept`). Assumes nothing.
 use mathlib.Core.Path.{_≡_, refl, sym, ap, _∙_}
 use mathlib.Core.Bool.{Bool, true, _&&_}
 use mathlib.Core.List.{List, [], _∷_}

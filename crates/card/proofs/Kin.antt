@@ -1,4 +1,8 @@
--- A search for the first entry, entry by entry, and the way up to the root, step by step. Assumes nothing.
+-- A search for the first entry, entry by entry, and the way up to the root, step by step.
+-- The loop of a search keeps that what is found from entry e on is what the whole search finds; a step looks at entry e, which is
+-- found or passed over. The way up ends because a parent's number is smaller than its child's: from entry e it takes at most e
+-- steps, so every bound that is large enough gives the same root (`same-root`), an entry has its parent's root (`root-of-parent`),
+-- and what is reached is a root (`root-facts`). Assumes nothing.
 use mathlib.Core.Path.{_≡_, refl, sym, ap, _∙_}
 use mathlib.Core.Bool.{Bool, true, false, false≢true, _&&_}
 use mathlib.Core.List.{List}

@@ -1,4 +1,9 @@
--- What the soundness of a table over a file memory promises, one promise at a time. Assumes nothing.
+-- What the soundness of a table over a file memory promises, one promise at a time.
+-- Soundness is one test, joined by and from smaller ones, so each of these holds: were one false, the whole would be false
+-- (`shown`; `at-most`, `below` and `equal` for tests on numbers). The promises go from the whole to its parts: the lengths, a row
+-- by itself (a directory, a file, a file of records, a name), an entry where it stands, and two entries. A table tests each pair
+-- once, the earlier entry first; as that test says the same of the two swapped (`pair-swap`), it holds of any two different entries
+-- (`pair`). Assumes nothing.
 use mathlib.Core.Path.{_≡_, refl, sym, _∙_}
 use mathlib.Core.Bool.{Bool, true, false, not, _&&_, and-false, and-comm, or-comm, false≢true}
 use mathlib.Core.List.{List}
@@ -80,7 +85,7 @@ module _ (t files : List ℕ) (sound : soundTable t files ≡ true) where
   unfolding lengthsSound
   few-bytes = at-most lengths (length files) 32768 (λ n. simp (n, and-false))
 
--- a row by itself, over a file memory of so many bytes: a directory
+-- a row by itself, over a file memory of `files` bytes: a directory
 module _ (files : ℕ) (r : Row) (own : ownSound files r ≡ true) (dir : isDirectory r ≡ true) where
   directory : directorySound r ≡ true
   unfolding ownSound

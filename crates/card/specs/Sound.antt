@@ -81,7 +81,7 @@ fileSound files r =
 abbrev pub zerosSound : Row → Bool
 zerosSound r = eqb (r .eleven) 0 && (eqb (r .thirteen) 0 && eqb (r .fifteen) 0)
 
--- an entry by itself
+-- an entry by itself, over a file memory of `files` bytes
 unfoldable pub ownSound : ℕ → Row → Bool
 ownSound files r = zerosSound r && pick (isDirectory r) (directorySound r) (fileSound files r)
 
@@ -111,7 +111,7 @@ entriesSound count files at = allBelow count (λ e. entrySound files e (at (at e
 unfoldable pub pairsSound : ℕ → (ℕ → Row) → Bool
 pairsSound count at = allBelow count (λ e. allBelow e (λ d. pairSound (at d) (at e)))
 
--- a table of so many entries, over a file memory of so many bytes
+-- a table of `count` entries, over a file memory of `files` bytes
 unfoldable pub soundBy : ℕ → ℕ → (ℕ → Row) → Bool
 soundBy count files at = entriesSound count files at && pairsSound count at
 

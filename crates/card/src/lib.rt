@@ -17,7 +17,7 @@ ghost use lib.ListN.{length};
 ghost use Rattle.octets.specs.Bytes.{InWord};
 ghost use Rattle.card.specs.Row.{entrySize, entries, row, rowOf, placeOfNewest, placeOfState, Narrow};
 
-// The bytes of an entry.
+// The number of bytes of an entry.
 pub const ENTRY_SIZE: usize = 16;
 
 // "kind: 1 MF, 2 DF, 3 ADF, 4 transparent, 5 linear fixed, 6 cyclic"
@@ -59,14 +59,14 @@ pub struct Row {
     pub fifteen: usize,
 }
 
-// How many entries a table has.
+// Returns how many entries a table has.
 pub fn count(table: &[u8]) -> usize
     ensures { λ r. ⌜ r ≡ entries (now (table .entry)) ⌝ }
 {
     table.len() / ENTRY_SIZE
 }
 
-// What the 16 bytes of an entry hold.
+// Returns what the 16 bytes of an entry hold.
 fn row_of(bytes: &[u8]) -> Row
     requires { ⌜ length (now bytes) ≡ 16 ⌝ }
     ensures { λ r. ⌜ (r ≡ row (now (bytes .entry))) × Narrow r ⌝ }
@@ -87,7 +87,7 @@ fn row_of(bytes: &[u8]) -> Row
     }
 }
 
-// The entry of a number.
+// Returns what entry e of a table holds.
 pub fn row_at(table: &[u8], e: usize) -> Row
     requires { ⌜ entrySize * e + entrySize ≤ length (now table) ⌝ }
     ensures { λ r. ⌜ (r ≡ rowOf (now (table .entry)) e) × Narrow r ⌝ }

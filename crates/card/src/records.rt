@@ -6,7 +6,7 @@ ghost use Rattle.card.specs.Row.{Narrow};
 ghost use Rattle.card.specs.Sound.{recordCount};
 ghost use Rattle.card.specs.Records.{cyclicPlace, recordOffset, oldestPlace};
 
-// The place of record r among m, with the newest at place k.
+// Returns the place of record r among m records, with the newest at place k.
 pub fn cyclic_place(m: usize, k: usize, r: usize) -> usize
     requires { ⌜ (1 ≤ m) × (1 ≤ r) × (k + r < 131072) ⌝ }
     ensures { λ p. ⌜ (p ≡ cyclicPlace m k r) × (p < m) ⌝ }
@@ -14,7 +14,7 @@ pub fn cyclic_place(m: usize, k: usize, r: usize) -> usize
     (k + r - 1) % m
 }
 
-// How many records a file has.
+// Returns how many records a file has.
 pub fn record_count(f: Row) -> usize
     requires { ⌜ 1 ≤ f .«record_length» ⌝ }
     ensures { λ n. ⌜ (n ≡ recordCount f) × (n * f .«record_length» ≤ f .size) ⌝ }
@@ -23,7 +23,7 @@ pub fn record_count(f: Row) -> usize
     f.size / record
 }
 
-// Where record r begins in its file.
+// Returns where record r begins in its file.
 pub fn record_offset(f: Row, r: usize) -> usize
     requires { ⌜ (1 ≤ f .«record_length») × (1 ≤ r) × (r ≤ recordCount f) × Narrow f ⌝ }
     ensures { λ p. ⌜ (p ≡ recordOffset f r) × (p + f .«record_length» ≤ f .size) ⌝ }
@@ -33,7 +33,7 @@ pub fn record_offset(f: Row, r: usize) -> usize
     record * cyclic_place(m, f.newest, r)
 }
 
-// The place of the oldest record.
+// Returns the place of the oldest record of a file.
 pub fn oldest_place(f: Row) -> usize
     requires { ⌜ (1 ≤ f .«record_length») × (1 ≤ recordCount f) × Narrow f ⌝ }
     ensures { λ p. ⌜ (p ≡ oldestPlace f) × (p < recordCount f) ⌝ }

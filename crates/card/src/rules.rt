@@ -14,42 +14,42 @@ const LONGEST_RECORD: usize = 255;
 
 const MOST_RECORDS: usize = 254;
 
-// The kinds that are directories.
+// Returns whether an entry is a directory, by its kind.
 pub fn is_directory(r: Row) -> bool
     ensures { λ b. ⌜ b ≡ isDirectory r ⌝ }
 {
     (1 <= r.kind) & (r.kind <= 3)
 }
 
-// The kinds that are files.
+// Returns whether an entry is a file, by its kind.
 pub fn is_file(r: Row) -> bool
     ensures { λ b. ⌜ b ≡ isFile r ⌝ }
 {
     (4 <= r.kind) & (r.kind <= 6)
 }
 
-// The kinds that can be a directory's child.
+// Returns whether an entry can be a directory's child, by its kind.
 pub fn can_be_child(r: Row) -> bool
     ensures { λ b. ⌜ b ≡ canBeChild r ⌝ }
 {
     !((r.kind == 0) | ((r.kind == 1) | (r.kind == 3)))
 }
 
-// Entry 0.
+// Returns whether entry 0 has the kind, the identifier and the parent of the MF.
 pub fn root_sound(r: Row) -> bool
     ensures { λ b. ⌜ b ≡ rootSound r ⌝ }
 {
     (r.kind == 1) & ((r.identifier == 0x3F00) & (r.parent == 0))
 }
 
-// An entry's kind and parent, with its number and the parent's row.
+// Returns whether the kind and the parent of entry e are sound, with the parent's row.
 pub fn place_sound(e: usize, parent: Row, r: Row) -> bool
     ensures { λ b. ⌜ b ≡ placeSound e parent r ⌝ }
 {
     (2 <= r.kind) & ((r.kind <= 6) & ((r.parent < e) & is_directory(parent)))
 }
 
-// An entry's identifier.
+// Returns whether an entry's identifier, and an ADF's parent, are sound.
 pub fn name_sound(r: Row) -> bool
     ensures { λ b. ⌜ b ≡ nameSound r ⌝ }
 {
@@ -59,7 +59,7 @@ pub fn name_sound(r: Row) -> bool
     !((r.identifier == 0x3F00) | ((r.identifier == 0x3FFF) | (r.identifier == 0x7FFF)))
 }
 
-// What a directory holds.
+// Returns whether a directory's entry has zeros where it must, and the activated state.
 fn directory_sound(r: Row) -> bool
     ensures { λ b. ⌜ b ≡ directorySound r ⌝ }
 {
@@ -69,7 +69,7 @@ fn directory_sound(r: Row) -> bool
                 & ((r.newest == 0) & ((r.never == 0) & (r.state == ACTIVATED)))))
 }
 
-// A value of byte 9.
+// Returns whether a value of byte 9, the place of the newest record, is sound.
 pub fn newest_sound(r: Row, place: usize) -> bool
     ensures { λ b. ⌜ b ≡ newestSound r place ⌝ }
 {
@@ -83,14 +83,14 @@ pub fn newest_sound(r: Row, place: usize) -> bool
     place == 0
 }
 
-// A value of byte 10.
+// Returns whether a value of byte 10, a file's state, is sound.
 pub fn state_sound(state: usize) -> bool
     ensures { λ b. ⌜ b ≡ stateSound state ⌝ }
 {
     (state == DEACTIVATED) | (state == ACTIVATED)
 }
 
-// A file's record length and record count.
+// Returns whether a file's record length and record count are sound.
 fn records_sound(r: Row) -> bool
     ensures { λ b. ⌜ b ≡ recordsSound r ⌝ }
 {
@@ -105,7 +105,7 @@ fn records_sound(r: Row) -> bool
     (record <= LONGEST_RECORD) & ((r.size % record == 0) & ((1 <= count) & (count <= MOST_RECORDS)))
 }
 
-// What a file holds, over a file memory of so many bytes.
+// Returns whether what a file's entry holds is sound, over a file memory of `files` bytes.
 fn file_sound(files: usize, r: Row) -> bool
     requires { ⌜ Narrow r ⌝ }
     ensures { λ b. ⌜ b ≡ fileSound files r ⌝ }
@@ -116,14 +116,14 @@ fn file_sound(files: usize, r: Row) -> bool
                 & (newest_sound(r, r.newest) & (state_sound(r.state) & (r.never < 32)))))
 }
 
-// Bytes 11 and 13-15.
+// Returns whether bytes 11 and 13-15 are zero.
 fn zeros_sound(r: Row) -> bool
     ensures { λ b. ⌜ b ≡ zerosSound r ⌝ }
 {
     (r.eleven == 0) & ((r.thirteen == 0) & (r.fifteen == 0))
 }
 
-// An entry by itself.
+// Returns whether an entry is sound by itself, over a file memory of `files` bytes.
 pub fn own_sound(files: usize, r: Row) -> bool
     requires { ⌜ Narrow r ⌝ }
     ensures { λ b. ⌜ b ≡ ownSound files r ⌝ }
@@ -134,7 +134,7 @@ pub fn own_sound(files: usize, r: Row) -> bool
     zeros_sound(r) & file_sound(files, r)
 }
 
-// Two entries have different names where they have one parent.
+// Returns whether two entries have different identifiers where they are children of one parent.
 fn named_apart(a: Row, b: Row) -> bool
     ensures { λ t. ⌜ t ≡ namedApart a b ⌝ }
 {
@@ -144,7 +144,7 @@ fn named_apart(a: Row, b: Row) -> bool
     !((can_be_child(a) & can_be_child(b)) & (a.parent == b.parent))
 }
 
-// Two entries do not overlap.
+// Returns whether two entries do not overlap in file memory.
 fn lie_apart(a: Row, b: Row) -> bool
     requires { ⌜ Narrow a × Narrow b ⌝ }
     ensures { λ t. ⌜ t ≡ lieApart a b ⌝ }
@@ -155,7 +155,7 @@ fn lie_apart(a: Row, b: Row) -> bool
     b.start + b.size <= a.start
 }
 
-// Two entries.
+// Returns whether two entries are sound beside each other.
 pub fn pair_sound(a: Row, b: Row) -> bool
     requires { ⌜ Narrow a × Narrow b ⌝ }
     ensures { λ t. ⌜ t ≡ pairSound a b ⌝ }

@@ -19,7 +19,7 @@ const MOST_ENTRIES: usize = 64;
 
 const MOST_FILE_BYTES: usize = 32768;
 
-// An entry where it stands, over a file memory of so many bytes.
+// Returns whether entry e is sound where it stands, over a file memory of `files` bytes.
 fn entry_sound(table: &[u8], files: usize, e: usize) -> bool
     requires { ⌜ e < entries (now table) ⌝ }
     ensures { λ b. ⌜ b ≡ entrySound files e (rowOf (now (table .entry)) (rowOf (now (table .entry)) e .parent)) (rowOf (now (table .entry)) e) ⌝ }
@@ -36,7 +36,7 @@ fn entry_sound(table: &[u8], files: usize, e: usize) -> bool
     own_sound(files, r) & (place_sound(e, parent, r) & name_sound(r))
 }
 
-// The entries one by one.
+// Returns whether each entry of a table is sound where it stands, over a file memory of `files` bytes.
 fn entries_sound(table: &[u8], files: usize) -> bool
     ensures { λ b. ⌜ b ≡ entriesSound (entries (now (table .entry))) files (rowOf (now (table .entry))) ⌝ }
 {
@@ -51,7 +51,7 @@ fn entries_sound(table: &[u8], files: usize) -> bool
     true
 }
 
-// An entry's row and each entry before it.
+// Returns whether the row r of entry e is sound beside each entry before it.
 fn earlier_sound(table: &[u8], e: usize, r: Row) -> bool
     requires { ⌜ (e ≤ entries (now table)) × Narrow r ⌝ }
     ensures { λ b. ⌜ b ≡ allBelow e (λ d. pairSound (rowOf (now (table .entry)) d) r) ⌝ }
@@ -67,7 +67,7 @@ fn earlier_sound(table: &[u8], e: usize, r: Row) -> bool
     true
 }
 
-// The pairs.
+// Returns whether every two entries of a table are sound beside each other.
 fn pairs_sound(table: &[u8]) -> bool
     ensures { λ b. ⌜ b ≡ pairsSound (entries (now (table .entry))) (rowOf (now (table .entry))) ⌝ }
 {
@@ -83,7 +83,7 @@ fn pairs_sound(table: &[u8]) -> bool
     true
 }
 
-// A table over a file memory.
+// Returns whether a table is sound over a file memory.
 pub fn sound_table(table: &[u8], files: &[u8]) -> bool
     ensures { λ b. ⌜ b ≡ soundTable (now (table .entry)) (now (files .entry)) ⌝ }
 {

@@ -12,13 +12,13 @@ ghost use lib.Dec.{eqb};
 ghost use Rattle.card.specs.Row.{entries, isDF};
 ghost use Rattle.card.specs.Tree.{childWith, ParentsSmaller, rootIn};
 
-// The entry that a search finds.
+// What a search for an entry finds: its number, or nothing.
 pub enum Found {
     At(usize),
     Nothing,
 }
 
-// The first child of a directory that has an identifier; a DF, if only those are wanted.
+// Returns the first child of a directory that has the identifier; the first such DF if `only_df`.
 pub fn child(table: &[u8], directory: usize, only_df: bool, identifier: usize) -> Found
     ensures { λ f. ⌜ f ≡ childWith (now (table .entry)) directory (λ r. (not «only_df» || isDF r) && eqb (r .identifier) identifier) ⌝ }
 {
@@ -36,7 +36,7 @@ pub fn child(table: &[u8], directory: usize, only_df: bool, identifier: usize) -
     Found::Nothing
 }
 
-// The MF or the ADF that an entry belongs to.
+// Returns the MF or the ADF that entry e belongs to.
 pub fn root_of(table: &[u8], e: usize) -> usize
     requires { ⌜ (e < entries (now table)) × ParentsSmaller (now table) ⌝ }
     ensures { λ r. ⌜ (r ≤ e) × ((n : ℕ) → e ≤ n → r ≡ rootIn n (now (table .entry)) e) ⌝ }

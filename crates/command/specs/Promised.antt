@@ -16,7 +16,8 @@ pub record OfBytes (c : Command) (lc : ℕ) : Type 0 where
 abbrev pub mostData : ℕ
 mostData = 256
 
--- the data of an outcome lie in a file memory of so many bytes, `mostData` at most, or in the waiting bytes
+-- the data of an outcome, `mostData` bytes at most, lie in a file memory of `files` bytes, or they are waiting bytes, `mostWaiting`
+-- at most
 unfoldable pub OutcomeFits : ℕ → Outcome → Type 0
 OutcomeFits files (Well word) = Unit
 OutcomeFits files (FromFiles word place n) = (place + n ≤ files) × (n ≤ mostData)

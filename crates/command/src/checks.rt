@@ -37,7 +37,7 @@ pub enum Checked {
     Failed(Check),
 }
 
-// The word of a check that fails.
+// Returns the word of a check that fails.
 pub fn check_word(k: Check) -> usize
     ensures { λ n. ⌜ n ≡ spec.checkWord k ⌝ }
 {

@@ -20,7 +20,7 @@ pub const BYTES_WAIT: usize = 0x6100;
 
 const MOST_BYTES_WAIT: usize = 0x61FF;
 
-// The word of an outcome.
+// Returns the word of an outcome.
 pub fn word_of(o: Outcome) -> usize
     ensures { λ w. ⌜ w ≡ spec.wordOf o ⌝ }
 {
@@ -32,7 +32,7 @@ pub fn word_of(o: Outcome) -> usize
     }
 }
 
-// How many data bytes it has.
+// Returns how many data bytes an outcome has.
 pub fn data_count(o: Outcome) -> usize
     ensures { λ n. ⌜ n ≡ spec.dataCount o ⌝ }
 {
@@ -44,7 +44,7 @@ pub fn data_count(o: Outcome) -> usize
     }
 }
 
-// Whether a script goes on after a word.
+// Returns whether a script goes on after a word.
 pub fn goes_on(word: usize) -> bool
     ensures { λ b. ⌜ b ≡ spec.goesOn word ⌝ }
 {
@@ -53,7 +53,7 @@ pub fn goes_on(word: usize) -> bool
             | ((word == SELECTED_DEACTIVATED) | ((BYTES_WAIT <= word) & (word <= MOST_BYTES_WAIT))))
 }
 
-// Data that are a part of the file memory.
+// Returns data that are a part of the file memory: its n bytes from a place on.
 pub fn from_files<'f, 'w>(files: &'f [u8], waiting: &'w [u8], place: usize, n: usize) -> &'f [u8]
     requires { ⌜ place + n ≤ length (now files) ⌝ }
     ensures { λ d. ⌜ now d ≡ part (now (files .entry)) place n ⌝ }
@@ -61,7 +61,7 @@ pub fn from_files<'f, 'w>(files: &'f [u8], waiting: &'w [u8], place: usize, n: u
     &files[place..place + n]
 }
 
-// Data that are the first waiting bytes.
+// Returns data that are the first n waiting bytes.
 pub fn from_waiting<'f, 'w>(files: &'f [u8], waiting: &'w [u8], n: usize) -> &'w [u8]
     requires { ⌜ n ≤ length (now waiting) ⌝ }
     ensures { λ d. ⌜ now d ≡ take n (now (waiting .entry)) ⌝ }
@@ -69,7 +69,7 @@ pub fn from_waiting<'f, 'w>(files: &'f [u8], waiting: &'w [u8], n: usize) -> &'w
     &waiting[..n]
 }
 
-// The data of an outcome are written at a place; what comes out is the place after them.
+// Writes the data of an outcome at the place `at`, and returns the place after them.
 pub fn put_data(out: &mut [u8], at: usize, o: Outcome, files: &[u8], waiting: &[u8]) -> usize
     requires { ⌜ OutcomeFits (length (now files)) o × (length (now waiting) ≡ mostWaiting) × (at + spec.dataCount o ≤ length (now out)) ⌝ }
     ensures { λ r. ⌜ (now (out .exit) ≡ overwrite (now (out .entry)) at (spec.dataOf o (now (files .entry)) (now (waiting .entry)))) × (r ≡ at + spec.dataCount o) ⌝ }

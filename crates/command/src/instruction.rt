@@ -28,7 +28,7 @@ pub const NO_DATA: usize = 0x0C;
 
 pub const WITH_FCP: usize = 0x04;
 
-// Whether an instruction carries data.
+// Returns whether an instruction carries data.
 pub fn carries_data(i: usize) -> bool
     ensures { λ b. ⌜ b ≡ spec.carriesData i ⌝ }
 {
@@ -36,42 +36,42 @@ pub fn carries_data(i: usize) -> bool
         | ((i == UPDATE_BINARY) | ((i == UPDATE_RECORD) | ((i == SEARCH) | (i == INCREASE))))
 }
 
-// Whether it is an outgoing one.
+// Returns whether an instruction is an outgoing one.
 pub fn is_outgoing(i: usize) -> bool
     ensures { λ b. ⌜ b ≡ spec.isOutgoing i ⌝ }
 {
     (i == READ_BINARY) | ((i == READ_RECORD) | (i == GET_RESPONSE))
 }
 
-// Whether it deactivates or activates.
+// Returns whether an instruction deactivates or activates.
 pub fn is_switch(i: usize) -> bool
     ensures { λ b. ⌜ b ≡ spec.isSwitch i ⌝ }
 {
     (i == DEACTIVATE) | (i == ACTIVATE)
 }
 
-// Whether there is such an instruction.
+// Returns whether there is such an instruction.
 pub fn is_known(i: usize) -> bool
     ensures { λ b. ⌜ b ≡ spec.isKnown i ⌝ }
 {
     carries_data(i) | (is_outgoing(i) | is_switch(i))
 }
 
-// Whether it works on transparent files.
+// Returns whether an instruction works on transparent files.
 pub fn is_binary(i: usize) -> bool
     ensures { λ b. ⌜ b ≡ spec.isBinary i ⌝ }
 {
     (i == READ_BINARY) | (i == UPDATE_BINARY)
 }
 
-// Whether it works on record files, INCREASE apart.
+// Returns whether an instruction works on record files, INCREASE apart.
 pub fn is_record(i: usize) -> bool
     ensures { λ b. ⌜ b ≡ spec.isRecord i ⌝ }
 {
     (i == READ_RECORD) | ((i == UPDATE_RECORD) | (i == SEARCH))
 }
 
-// The class of an instruction.
+// Returns the class of an instruction.
 pub fn class_of(i: usize) -> usize
     ensures { λ n. ⌜ n ≡ spec.classOf i ⌝ }
 {
@@ -81,7 +81,7 @@ pub fn class_of(i: usize) -> usize
     0x00
 }
 
-// The case that an instruction needs, with its P2.
+// Returns the case that an instruction needs, with its P2.
 pub fn case_of(i: usize, p2: usize) -> usize
     ensures { λ n. ⌜ n ≡ spec.caseOf i p2 ⌝ }
 {
@@ -97,7 +97,7 @@ pub fn case_of(i: usize, p2: usize) -> usize
     4
 }
 
-// The NEVER bit that shuts an instruction out.
+// Returns the NEVER bit that shuts an instruction out.
 pub fn never_bit(i: usize) -> usize
     ensures { λ n. ⌜ (n ≡ spec.neverBit i) × (1 ≤ n) ⌝ }
 {

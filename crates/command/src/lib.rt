@@ -34,7 +34,7 @@ pub struct Reading {
 }
 
 // How a command ends: well with a word and no data; well with a word and a part of the file memory (its place and length); well
-// with a word and the first waiting bytes (how many); or with the check that failed, whose word it is.
+// with a word and the first waiting bytes (their number); or with the check that failed, whose word it is.
 pub enum Outcome {
     Well(usize),
     FromFiles(usize, usize, usize),

@@ -7,14 +7,14 @@ pub struct Reader<'a> {
     pub at: usize,
 }
 
-// A reader at the front of a script.
+// Returns a reader at the front of a script.
 pub fn at_front<'a>(script: &'a [u8]) -> Reader<'a>
     ensures { λ r. ⌜ (r .script ≡ script .entry) × (r .at ≡ 0) ⌝ }
 {
     Reader { script, at: 0 }
 }
 
-// A reader, moved on to a place.
+// Returns the reader, moved on to the place `at`.
 pub fn moved_on<'a>(r: Reader<'a>, at: usize) -> Reader<'a>
     ensures { λ m. ⌜ (m .script ≡ r .entry .script) × (m .at ≡ at) ⌝ }
 {

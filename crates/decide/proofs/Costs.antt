@@ -11,7 +11,7 @@ use Rattle.plan.specs.Promised.{recordWrites, writesOf, Fits, CostOfAsks}
 use Rattle.plan.specs.declared.Change.{Change}
 use Rattle.plan.specs.declared.Change.the-variants.{Nothing, Content, DataRecord, SumRecord, TableByte}
 
--- the journal bytes that a change takes, with so many data bytes
+-- the journal bytes that a change takes, with `lc` data bytes
 unfoldable pub costOf : Change → ℕ → ℕ
 costOf Nothing lc = 0
 costOf (Content start size offset) lc = entryBytes lc

@@ -1,5 +1,10 @@
--- What is known of a file command behind its checks, what a sound table and a good session give it, and what it comes to without and
--- with the journal's room. Assumes nothing.
+-- What is known of a file command after its checks, what a sound table and a good session give it, and what it comes to without and
+-- with the journal's room.
+-- What came of the checks holds of every situation with this command, session and row (`Told`). The command's own situation is one
+-- of these (`own-situation`), so a check that failed is the plan's (`check-failed`), and where all are passed each gives a fact
+-- about the row (`Known`), which are the bounds that the instruction's function asks for. What comes of it is decided but for the
+-- journal's room, for any journal (`Unroomed`); the room is the last check, and with it this is what is planned (`room-decided`).
+-- Assumes nothing.
 use mathlib.Core.Path.{_≡_, refl, sym, _∙_}
 use mathlib.Core.Bool.{true, false}
 use mathlib.Core.List.{List, [], _++_}

@@ -1,4 +1,8 @@
--- Where no check of an order fails, every one of them is passed; and what each then promises to the instructions that need it. Assumes nothing.
+-- Where no check of an order fails, every one of them is passed; and what each then promises to the instructions that need it.
+-- Nothing fails in a list only if its first check is passed and nothing fails in the rest, so by induction every check is passed
+-- (`all-pass`); those of a file command that a plan rests on get names (`Passes`). A check is a choice by the instruction between
+-- tests of numbers: with the instruction known the choice is made, and the test gives the equation or the bound (`offset-read`,
+-- `length-record`, `named-there` and the others). Assumes nothing.
 use mathlib.Core.Path.{_≡_, refl, sym}
 use mathlib.Core.Bool.{Bool, true, false, not, _&&_, _||_, false≢true}
 use mathlib.Core.List.{List, [], _∷_, _++_}

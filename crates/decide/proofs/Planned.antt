@@ -1,4 +1,9 @@
--- What a command plans on a sound card, by its instruction: its writes are of a sound form where they go, its session is good, and, if P3 is a byte, the data of its outcome lie in the file memory or in the waiting bytes. Assumes nothing.
+-- What a command plans on a sound card, by its instruction: its writes are of a sound form where they go, its session is good, and,
+-- if P3 is a byte, the data of its outcome lie in the file memory or in the waiting bytes.
+-- A plan is that of a check that failed, which writes nothing (`fit-failed`), or that of the instruction where every check is
+-- passed (`of-planned`). The second goes by the instruction (`by-instruction`): the checks of a file command that are passed put
+-- its offset, its record or its length inside the file, and with that the law of `Fit` for the instruction holds (`by-read` and the
+-- others); SELECT and GET RESPONSE need no check for it. Assumes nothing.
 use mathlib.Core.Path.{_≡_, refl}
 use mathlib.Core.Bool.{true, false}
 use mathlib.Core.List.{List}

@@ -1,5 +1,10 @@
--- What a command comes to: the first check that fails, what comes behind the checks for SELECT, for GET RESPONSE and
--- for a file command, and decisions that write nothing or find room. Assumes nothing.
+-- What a command comes to: the first check that fails, what comes after the formal checks for SELECT, for GET RESPONSE and for a
+-- file command, and decisions that write nothing or find room.
+-- The first check of a list that fails decides. A list can be cut in two: a failure in the front part is that of the whole
+-- (`first-before`), and where the front part is passed the rest decides (`first-behind`). So the formal checks come first, and then
+-- the checks of the instruction: the two of SELECT and the two of GET RESPONSE are written out (`two-checks`), and a file command
+-- is decided without the last check, the journal's room, which is then put around its plan (`room-last`); that is the same, as a
+-- plan that failed writes nothing and always has room (`room-failed`). Assumes nothing.
 use mathlib.Core.Path.{_≡_, refl, sym, ap, _∙_}
 use mathlib.Core.Bool.{Bool, true, false, not, _&&_}
 use mathlib.Core.List.{List, [], _∷_, _++_}

@@ -46,7 +46,7 @@ boundChecks =
 unfoldable pub fileChecks : List Check
 fileChecks = boundChecks ++ (SumTooLong ∷ JournalFull ∷ [])
 
--- the checks behind the formal ones
+-- the checks after the formal ones
 unfoldable pub laterChecks : ℕ → List Check
 laterChecks i = pick (eqb i ins.select) selectChecks (pick (eqb i ins.getResponse) responseChecks fileChecks)
 

@@ -1,4 +1,5 @@
--- What promises speak of besides the rules: what the checks look at, what deciding a command asks for, what it comes to without and with the journal's room, and what is decided.
+-- What promises speak of besides the rules: what the checks look at, what deciding a command asks for, what it comes to without and
+-- with the journal's room, and what is decided.
 use Prim.Native.Nat.{ℕ, _+_, _≤_}
 use mathlib.Core.Path.{_≡_}
 use mathlib.Core.Bool.{true}
@@ -28,7 +29,7 @@ use Rattle.decide.specs.Order.{formalChecks, boundChecks, laterChecks}
 use Rattle.decide.specs.Fails.{firstFailing}
 use Rattle.decide.specs.Decisions.{situation, decided}
 
--- what came of a list of checks is what comes of it in every situation of which so much is known
+-- what came of a list of checks is what comes of it in every situation of which `Known` holds
 abbrev pub FirstOf : List Check → (Situation → Type 0) → Checked → Type 0
 FirstOf ks Known r = (w : Situation) → Known w → r ≡ firstFailing w ks
 
@@ -55,11 +56,11 @@ Whole c lc domain s r w = Formal c lc domain w × OnFile s r w
 abbrev pub FileCheckAsks : ℕ → Command → ℕ → Row → Type 0
 FileCheckAsks i c lc r = (c .instruction ≡ i) × (hasRecords r ≡ true → 1 ≤ r .«record_length») × OfBytes c lc
 
--- a plan behind the check of the journal's room
+-- a plan after the check of the journal's room
 unfoldable pub roomed : ℕ → ℕ → Standing → Plan → Plan
 roomed used room s plan = pick (ltb room (used + cost (plan .writes))) (failed s JournalFull) plan
 
--- GET RESPONSE behind the formal checks
+-- GET RESPONSE after the formal checks
 unfoldable pub responded : Command → Standing → Plan
 responded c s =
     pick (eqb (s .valid) 0)

@@ -41,7 +41,7 @@ ghost use Rattle.decide.specs.Order.{boundChecks, formalChecks};
 // "INCREASE, .. record length at most 127"
 const LONGEST_INCREASE: usize = 127;
 
-// Whether a command has the wrong case, or Lc 0.
+// Returns whether a command has the wrong case, or Lc 0 where it must carry data.
 fn wrong_case(i: usize, c: Command, lc: usize) -> bool
     requires { ⌜ c .instruction ≡ i ⌝ }
     ensures { λ b. ⌜ b ≡ spec.wrongCase c lc ⌝ }
@@ -49,7 +49,7 @@ fn wrong_case(i: usize, c: Command, lc: usize) -> bool
     !(c.case == case_of(i, c.p2)) | (carries_data(i) & (lc == 0))
 }
 
-// Whether an instruction takes P1 and P2.
+// Returns whether an instruction takes these P1 and P2.
 fn parameters_fit(i: usize, p1: usize, p2: usize) -> bool
     ensures { λ b. ⌜ b ≡ spec.parametersFit i p1 p2 ⌝ }
 {
@@ -69,14 +69,14 @@ fn parameters_fit(i: usize, p1: usize, p2: usize) -> bool
     (p1 == 0x00) & (p2 == 0x00)
 }
 
-// Whether the access domain shuts an instruction out.
+// Returns whether the access domain shuts an instruction out.
 fn wrong_domain(i: usize, domain: usize) -> bool
     ensures { λ b. ⌜ b ≡ spec.wrongDomain i domain ⌝ }
 {
     (domain == 0xFF) & !(i == GET_RESPONSE)
 }
 
-// The first of the checks that every command meets, for a command with its instruction i and lc data bytes.
+// Returns the first check that fails, of those that every command meets, for a command with its instruction i and `lc` data bytes.
 pub fn formal_check(i: usize, c: Command, lc: usize, domain: usize) -> Checked
     requires { ⌜ c .instruction ≡ i ⌝ }
     ensures { λ r. ⌜ FirstOf formalChecks (Formal c lc domain) r ⌝ }
@@ -105,7 +105,7 @@ pub fn formal_check(i: usize, c: Command, lc: usize, domain: usize) -> Checked
     Checked::Passed
 }
 
-// The check that a command with an unknown instruction fails.
+// Returns the check that a command with an unknown instruction fails.
 pub fn unknown_check(c: Command) -> Check
     ensures { λ k. ⌜ k ≡ spec.unknownCheck c ⌝ }
 {
@@ -115,7 +115,7 @@ pub fn unknown_check(c: Command) -> Check
     Check::UnknownInstruction
 }
 
-// Whether SELECT with P1 takes n data bytes.
+// Returns whether SELECT with P1 takes n data bytes.
 pub fn path_length_fits(p1: usize, n: usize) -> bool
     ensures { λ b. ⌜ b ≡ spec.pathLengthFits p1 n ⌝ }
 {
@@ -125,7 +125,7 @@ pub fn path_length_fits(p1: usize, n: usize) -> bool
     (n % 2 == 0) & ((2 <= n) & (n <= 16))
 }
 
-// Whether an instruction works on a file of a kind.
+// Returns whether an instruction works on a file of this kind.
 fn kind_fits(i: usize, r: Row) -> bool
     ensures { λ b. ⌜ b ≡ spec.kindFits i r ⌝ }
 {
@@ -141,21 +141,21 @@ fn kind_fits(i: usize, r: Row) -> bool
     true
 }
 
-// Whether DC is put to a cyclic file outside mode 03.
+// Returns whether DC is put to a cyclic file outside mode 03.
 fn wrong_mode(i: usize, p2: usize, r: Row) -> bool
     ensures { λ b. ⌜ b ≡ spec.wrongMode i p2 r ⌝ }
 {
     ((i == UPDATE_RECORD) & (r.kind == card::CYCLIC)) & !(p2 == MODE_PREVIOUS)
 }
 
-// Whether the file is deactivated, for an instruction that asks.
+// Returns whether the file is deactivated and this shuts the instruction out.
 fn is_shut(i: usize, r: Row) -> bool
     ensures { λ b. ⌜ b ≡ spec.isShut i r ⌝ }
 {
     (r.state == card::DEACTIVATED) & !is_switch(i)
 }
 
-// Whether the file's NEVER bits shut an instruction out.
+// Returns whether the file's NEVER bits shut an instruction out.
 fn is_never(i: usize, r: Row) -> bool
     ensures { λ b. ⌜ b ≡ spec.isNever i r ⌝ }
 {
@@ -163,14 +163,14 @@ fn is_never(i: usize, r: Row) -> bool
     r.never / bit % 2 == 1
 }
 
-// Whether an offset into a transparent file is not below its length.
+// Returns whether an offset into a transparent file is not below its length.
 fn offset_outside(i: usize, offset: usize, r: Row) -> bool
     ensures { λ b. ⌜ b ≡ spec.offsetOutside i offset r ⌝ }
 {
     is_binary(i) & (r.size <= offset)
 }
 
-// Whether a command names a record, from the current record number, that the file has not.
+// Returns whether a command names a record, from the current record number, that the file has not.
 fn no_record(i: usize, c: Command, number: usize, r: Row) -> bool
     requires { ⌜ (c .instruction ≡ i) × (hasRecords r ≡ true → 1 ≤ r .«record_length») × (spec.kindFits i r ≡ true) ⌝ }
     ensures { λ b. ⌜ b ≡ spec.noRecord c number r ⌝ }
@@ -184,7 +184,7 @@ fn no_record(i: usize, c: Command, number: usize, r: Row) -> bool
     !has_record(r, record_of(c, number, r))
 }
 
-// Whether an instruction takes these lengths against file or record.
+// Returns whether an instruction takes these lengths against file or record.
 fn length_fits(i: usize, offset: usize, p3: usize, lc: usize, r: Row) -> bool
     requires { ⌜ (offset < 65536) × (lc < 65536) ⌝ }
     ensures { λ b. ⌜ b ≡ spec.lengthFits i offset p3 lc r ⌝ }
@@ -204,8 +204,8 @@ fn length_fits(i: usize, offset: usize, p3: usize, lc: usize, r: Row) -> bool
     true
 }
 
-// The first of the checks on a file, up to the lengths, for a command with its instruction i and lc data bytes, from where its session
-// stands, on a file with the row r.
+// Returns the first check that fails, of those on a file up to the lengths, for a command with its instruction i and `lc` data
+// bytes, from where its session stands, on a file with the row r.
 pub fn file_check(i: usize, c: Command, lc: usize, s: Standing, r: Row) -> Checked
     requires { ⌜ FileCheckAsks i c lc r ⌝ }
     ensures { λ k. ⌜ FirstOf boundChecks (Bound c lc s r) k ⌝ }

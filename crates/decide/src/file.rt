@@ -30,7 +30,7 @@ ghost use Rattle.plan.specs.Files as files-spec;
 ghost use Rattle.decide.specs.Order.{boundChecks, formalChecks};
 ghost use Rattle.decide.specs.Promised.{FirstOf, Whole, FileCheckAsks, FileCommandAsks, Unroomed};
 
-// The row of the file that a command works on.
+// Returns the row of the file that a command works on.
 fn target_row(table: &[u8], s: Standing) -> Row
     requires { ⌜ entrySize * files-spec.target s + entrySize ≤ length (now table) ⌝ }
     ensures { λ r. ⌜ (r ≡ rowOf (now (table .entry)) (files-spec.target s)) × Narrow r ⌝ }
@@ -38,7 +38,7 @@ fn target_row(table: &[u8], s: Standing) -> Row
     card::row_at(table, target(s))
 }
 
-// The first check of a file command that fails, up to the lengths.
+// Returns the first check of a file command that fails, up to the lengths.
 fn checked(i: usize, c: Command, lc: usize, domain: usize, s: Standing, r: Row) -> Checked
     requires { ⌜ FileCheckAsks i c lc r ⌝ }
     ensures { λ k. ⌜ FirstOf (formalChecks ++ boundChecks) (Whole c lc domain s r) k ⌝ }
@@ -49,7 +49,7 @@ fn checked(i: usize, c: Command, lc: usize, domain: usize, s: Standing, r: Row) 
     file_check(i, c, lc, s, r)
 }
 
-// READ BINARY.
+// Returns what is decided of READ BINARY, but for the journal's room.
 pub fn read_binary(
     format: Format,
     domain: usize,
@@ -69,7 +69,7 @@ pub fn read_binary(
     does::read_binary(format, c, s, r)
 }
 
-// UPDATE BINARY.
+// Returns what is decided of UPDATE BINARY, but for the journal's room.
 pub fn update_binary(
     domain: usize,
     c: Command,
@@ -88,7 +88,7 @@ pub fn update_binary(
     does::update_binary(c, s, r)
 }
 
-// READ RECORD.
+// Returns what is decided of READ RECORD, but for the journal's room.
 pub fn read_record(
     domain: usize,
     c: Command,
@@ -107,7 +107,7 @@ pub fn read_record(
     does::read_record(c, s, r)
 }
 
-// UPDATE RECORD.
+// Returns what is decided of UPDATE RECORD, but for the journal's room.
 pub fn update_record(
     domain: usize,
     c: Command,
@@ -126,7 +126,7 @@ pub fn update_record(
     does::update_record(c, s, r)
 }
 
-// SEARCH.
+// Returns what is decided of SEARCH, but for the journal's room.
 pub fn search(
     format: Format,
     domain: usize,
@@ -147,7 +147,7 @@ pub fn search(
     does::search_records(format, c, data, s, r, files, made)
 }
 
-// INCREASE.
+// Returns what is decided of INCREASE, but for the journal's room.
 pub fn increase(
     format: Format,
     domain: usize,
@@ -168,7 +168,7 @@ pub fn increase(
     does::increase(format, data, s, r, files, made)
 }
 
-// DEACTIVATE.
+// Returns what is decided of DEACTIVATE, but for the journal's room.
 pub fn deactivate(
     domain: usize,
     c: Command,
@@ -187,7 +187,7 @@ pub fn deactivate(
     does::switch(card::DEACTIVATED, s)
 }
 
-// ACTIVATE.
+// Returns what is decided of ACTIVATE, but for the journal's room.
 pub fn activate(
     domain: usize,
     c: Command,

@@ -45,7 +45,7 @@ ghost use Rattle.decide.specs.Decisions.{situation, decided, planned};
 ghost use Rattle.plan.specs.Promised.{writesOf, planOf, Fits, CostOfAsks};
 ghost use Rattle.decide.specs.Promised.{roomed, responded, DecideAsks, Decided};
 
-// GET RESPONSE.
+// Returns what is decided of GET RESPONSE, after the formal checks.
 fn get_response(c: Command, s: Standing) -> Decision
     ensures { λ d. ⌜ ((«data» bytes : List ℕ) → planOf d «data» bytes ≡ responded c s) × (d .change ≡ Change.Nothing) ⌝ }
 {
@@ -63,7 +63,7 @@ fn get_response(c: Command, s: Standing) -> Decision
     waited(s, kept, c.p3)
 }
 
-// SELECT, behind the formal checks.
+// Returns what is decided of SELECT, after the formal checks.
 fn decide_select(
     format: Format,
     c: Command,
@@ -90,7 +90,7 @@ fn decide_select(
     select_entry(format, s, c.p2, e, card::row_at(table, e), made)
 }
 
-// Returns how many journal bytes a change takes, with lc data bytes.
+// Returns how many journal bytes a change takes, with `lc` data bytes.
 fn cost_of(change: Change, lc: usize) -> usize
     requires { ⌜ (lc < 256) × CostOfAsks change ⌝ }
     ensures { λ n. ⌜ ((«data» bytes : List ℕ) → length «data» ≡ lc → length bytes ≡ mostWaiting → n ≡ cost (writesOf change «data» bytes)) × (n < 65536) ⌝ }
@@ -104,7 +104,7 @@ fn cost_of(change: Change, lc: usize) -> usize
     }
 }
 
-// A decision, or 6581 where the journal has no room for what it writes.
+// Returns a decision, or 6581 where the journal has no room for what it writes.
 fn with_room(d: Decision, s: Standing, lc: usize, used: usize, room: usize) -> Decision
     requires { ⌜ (lc < 256) × (used < 65536) × (used ≤ room) × CostOfAsks (d .change) ⌝ }
     ensures { λ r. ⌜ ((«data» bytes : List ℕ) → length «data» ≡ lc → length bytes ≡ mostWaiting → planOf r «data» bytes ≡ roomed used room s (planOf d «data» bytes)) × ((t f : ℕ) → Fits t f lc (d .change) → Fits t f lc (r .change)) ⌝ }
@@ -116,7 +116,7 @@ fn with_room(d: Decision, s: Standing, lc: usize, used: usize, room: usize) -> D
     d
 }
 
-// A command in a session on a card, with its data: what it makes is put at the start of the bytes that are lent for it.
+// Returns what is decided of a command in a session on a card, with its data; what it makes is put at the start of `made`.
 pub fn decide(
     format: Format,
     domain: usize,

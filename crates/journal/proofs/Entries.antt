@@ -1,4 +1,8 @@
--- Reading a journal's entries back: step by step, and from no other bytes than theirs. Assumes nothing.
+-- Reading a journal's entries back: step by step, and from no other bytes than theirs.
+-- `entriesBack` counts its steps; `Reading` says the same without a count: no bytes are left, or what ends there is no entry, or an
+-- entry ends there and the bytes before it are a reading. Each entry takes at least its tail, so any count that is no smaller than
+-- the number of bytes is enough (`read`, `read-only`), and a step back needs no count (`back-stuck`, `back-next`). A reading looks
+-- at no other bytes than those u, so a journal that has the same ones there has the same entries (`same-reading`). Assumes nothing.
 use mathlib.Core.Path.{_≡_, refl, sym, ap, _∙_}
 use mathlib.Core.Bool.{true, false, false≢true}
 use mathlib.Core.List.{List, [], _∷_}

@@ -1,4 +1,9 @@
--- A memory that gets bytes of a sound form: they fit, the table stays sound, its rows stay alike, and the same forms stay sound. Assumes nothing.
+-- A memory that gets bytes of a sound form: they fit, the table stays sound, its rows stay alike, and the same forms stay sound.
+-- Bytes of a sound form are a run that lies in file memory, or one table byte that may have that value. The first leaves the table
+-- and all lengths as they are; the second keeps the table sound and its rows alike, by the laws of `Table`. So the card after it is
+-- `Alike`, and what is asked of forms and entries is the same beside it (`alike-form`, `alike-all`). A sound entry that is no mark
+-- holds old bytes of a sound form (`entry-form`), so giving entries back goes by induction, each on the card that the one before
+-- left (`restore-alike`). Assumes nothing.
 use mathlib.Core.Path.{_≡_, refl, ap, _∙_}
 use mathlib.Core.Bool.{Bool, true, false, _&&_}
 use mathlib.Core.List.{List, [], _∷_}

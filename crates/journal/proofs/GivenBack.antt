@@ -1,4 +1,9 @@
--- The steps by which entries are given back, over plain variables: the newest one, and on to the newest mark. Assumes nothing.
+-- The steps by which entries are given back, over plain variables: the newest one, and on to the newest mark.
+-- The loop back to the mark keeps `GoesBack` while the first u bytes of entries are left: their entries are sound, there is a mark
+-- among them, and giving them back as far as the newest mark, to the memories as they are now, gives the card that the whole loop
+-- is to give. Of sound entries the newest can be read (`newest-readable`). If it is a mark, nothing is left to give back
+-- (`mark-card`, `mark-bytes`); else its old bytes go back to the memory that its kind names (`given-back`), and the loop goes on
+-- with the bytes before it (`back-goes-on`). No length changes, so each entry still fits. Assumes nothing.
 use mathlib.Core.Path.{_≡_, refl, sym, _∙_}
 use mathlib.Core.Bool.{true, false, _&&_, false≢true}
 use mathlib.Core.List.{List, _∷_}

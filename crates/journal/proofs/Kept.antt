@@ -1,4 +1,9 @@
--- The soundness of a card is kept: by a mark, a write, a list of writes, a take-back and a confirmation. Assumes nothing.
+-- The soundness of a card is kept: by a mark, a write, a list of writes, a take-back and a confirmation.
+-- A card is sound where its table is and the parts of its journal hold (`card-parts`, `card-whole`). A mark and a write push one
+-- entry (`push-parts`): it must be sound, and the oldest must still be a mark; the entry of a write holds old bytes, which are of a
+-- sound form where the new ones are. A take-back and a confirmation cut the journal back to some of its entries (`cut-parts`). The
+-- table stays sound by `Forms`, and its rows stay alike, so the entries are sound beside it as before. A list of writes goes by
+-- induction. Assumes nothing.
 use mathlib.Core.Path.{_≡_, refl, _∙_}
 use mathlib.Core.Bool.{Bool, true}
 use mathlib.Core.List.{List, [], _∷_}

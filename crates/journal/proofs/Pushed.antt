@@ -1,4 +1,8 @@
--- What one more entry does to a journal: to its length, its head, its entries and its other bytes. Assumes nothing.
+-- What one more entry does to a journal: to its length, its head, its entries and its other bytes.
+-- One more entry is two writes that do not meet: its bytes after the used ones, and a new head over the old one. So what stands
+-- after the head is as if only the first were made (`behind-head`): the bytes of the earlier entries and all those after the new
+-- entry are as they were, and the new head counts the new entry. Read back from the end, the first entry is the new one
+-- (`next-reading`), and then come the earlier ones, whose bytes are the same (`same-reading`). Assumes nothing.
 use mathlib.Core.Path.{_≡_, refl, sym, ap, _∙_}
 use mathlib.Core.List.{List, _∷_}
 use Prim.Native.Nat.{ℕ, _+_, _≤_, _<_}
@@ -110,7 +114,7 @@ module _ (j : List ℕ) (s : ℕ) (e : Entry) (fits : HasRoom j (length (encode 
         (next-reading (pushed j s e) (usedBytes j) e pushed-entry near (omega arith)
         (same-reading j (pushed j s e) (sym pushed-kept) (read-all j))))
 
--- a journal that holds one more entry than another, with so many scripts on trial
+-- a journal that holds one more entry than another, with `s` scripts on trial
 pub record Grown (j k : List ℕ) (s : ℕ) (e : Entry) : Type 0 where
   pub size : length k ≡ length j
   pub scripts : scriptsOnTrial k ≡ s

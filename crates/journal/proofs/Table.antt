@@ -1,4 +1,9 @@
--- A table byte that gets a value sound there: the table stays sound, its rows stay alike, and with them what an entry may be. Assumes nothing.
+-- A table byte that gets a value sound there: the table stays sound, its rows stay alike, and with them what an entry may be.
+-- A table byte that a journal entry may hold is one of two (`SoundByte`): the state of a file, or the newest place of a cyclic
+-- file. A place is split into an entry and a byte of it, so that each case is one law of the card's `Kept` (`state-kept`,
+-- `newest-kept`). The test of such a byte does not look at what these two bytes of the row hold (`blind`), so it says the same
+-- beside a table whose rows are alike (`form-kept`). The value that stood there is sound because the table is (`old-sound`).
+-- Assumes nothing.
 use mathlib.Core.Path.{_≡_, refl, sym, ap, _∙_}
 use mathlib.Core.Bool.{true, _&&_}
 use mathlib.Core.List.{List, [], _∷_}

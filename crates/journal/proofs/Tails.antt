@@ -1,4 +1,8 @@
--- The bytes of an entry: those of a whole one that ends somewhere, and those of one that stands behind others. Assumes nothing.
+-- The bytes of an entry: those of a whole one that ends somewhere, and those of one that stands after others.
+-- An entry is its old bytes and a tail of 8 that tells how many they are, so it can be found from its end. Both ways are shown:
+-- where an entry can be read, its bytes are the encoding of what is read (`entry-bytes`); and where the encoding of an entry stands
+-- after the first u bytes of entries, that entry is read (`entry-there`), and before it those u bytes (`next-reading`). A place and
+-- a count below 65536 are read back from their two bytes as they were (`tail-in`). Assumes nothing.
 use mathlib.Core.Path.{_≡_, sym, ap, _∙_}
 use mathlib.Core.Bool.{true}
 use mathlib.Core.List.{List, _∷_, _++_}

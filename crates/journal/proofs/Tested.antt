@@ -1,4 +1,10 @@
--- The steps of the test whether a journal is sound, over plain variables: the form of a tail, an entry, the entries back one by one, the head. Assumes nothing.
+-- The steps of the test whether a journal is sound, over plain variables: the form of a tail, an entry, the entries back one by
+-- one, the head.
+-- The definitions compare bytes with those that they should be, the code looks at single bytes: as all are below 256, a number
+-- gives back the two bytes that it was read from, and only the zeros are left to ask for (`formed-eight`, `head-four`). The loop
+-- over the entries keeps `soundFrom`: the test of the entries in the first u bytes, with n marks counted and the entry read last
+-- being a mark or not. It is false where no entry can be read (`sound-stuck`) or the entry is not sound (`sound-fails`), and else
+-- goes on with the bytes before the entry (`sound-goes-on`). Assumes nothing.
 use mathlib.Core.Path.{_≡_, refl, sym, ap, _∙_}
 use mathlib.Core.Bool.{Bool, true, false, _&&_, and-true, and-assoc}
 use mathlib.Core.List.{List, [], _∷_}

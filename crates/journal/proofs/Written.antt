@@ -1,4 +1,8 @@
--- What a write does to a card: to the lengths of its memories, to its journal's head and entries; and what it needs. Assumes nothing.
+-- What a write does to a card: to the lengths of its memories, to its journal's head and entries; and what it needs.
+-- What a write needs of a card is `Writable`: the used bytes lie in the journal and are just those of its entries, and all lengths
+-- are 16-bit numbers. A sound card has it; a mark, and a write that fits and finds room, keep it, as the journal grows by one entry
+-- (`Grown`) and no length changes. So a list of writes goes by induction: room for all is room for the first (`room-first`), and
+-- what is left after it is room for the others (`room-next`). Assumes nothing.
 use mathlib.Core.Path.{_≡_, refl, ap, _∙_}
 use mathlib.Core.Bool.{true}
 use mathlib.Core.List.{List, [], _∷_}

@@ -104,12 +104,12 @@ unfoldable pub restore : List Entry → Card → Card
 restore [] c = c
 restore (e ∷ es) c = restore es (restoreOne e c)
 
--- of entries, newest first: those in front of the newest mark
+-- of entries, newest first: those newer than the newest mark
 unfoldable pub sinceMark : List Entry → List Entry
 sinceMark [] = []
 sinceMark (e ∷ es) = pick (isMark e) [] (e ∷ sinceMark es)
 
--- and those behind it
+-- and those older than it
 unfoldable pub behindMark : List Entry → List Entry
 behindMark [] = []
 behindMark (e ∷ es) = pick (isMark e) es (behindMark es)

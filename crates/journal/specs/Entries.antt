@@ -34,11 +34,11 @@ flagOf j = byte j 3
 abbrev pub headOf : List ℕ → Head
 headOf j = head (usedBytes j) (scriptsOnTrial j) (flagOf j)
 
--- the most that U can be: what is left of the journal behind its head
+-- the most that U can be: what is left of the journal after its head
 unfoldable pub room : List ℕ → ℕ
 room j = length j - headSize
 
--- a journal has room for n bytes more, behind its used ones
+-- a journal has room for n bytes more, after its used ones
 abbrev pub HasRoom : List ℕ → ℕ → Type 0
 HasRoom j n = headSize + usedBytes j + n ≤ length j
 

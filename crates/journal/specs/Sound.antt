@@ -47,8 +47,8 @@ tablePlaceSound t place old =
     ltb (place / entrySize) (entries t)
     && tableByteSound (rowOf t (place / entrySize)) (place % entrySize) old
 
--- an entry of a kind, with its place, its number n of old bytes and the first of these, beside a table and a file memory of so
--- many bytes; "Places lie inside their memory."
+-- an entry of a kind, with its place, its number n of old bytes and the first of these, beside a table and a file memory of `files`
+-- bytes; "Places lie inside their memory."
 unfoldable pub formSound : List ℕ → ℕ → ℕ → ℕ → ℕ → ℕ → Bool
 formSound t files kind place n old =
     pick (eqb kind marksStart)

@@ -15,7 +15,7 @@ ghost use Rattle.journal.specs.Entries.{usedBytes, scriptsOnTrial, reada
 ghost use Rattle.journal.specs.Sound.{allSound, marks, soundCard};
 ghost use Rattle.journal.specs.Changes.{memoryOf, memoryFor, restoreOne, restore, sinceMark, behindMark, bytesTaken, takenBack};
 
-// The old bytes of the entry that ends where the first u bytes of entries end are given back; they lie inside their memory.
+// Gives back the old bytes of the entry that ends where the first u bytes of entries end; they lie inside their memory.
 fn restore_one(table: &mut [u8], files: &mut [u8], journal: &[u8], u: usize)
     requires { ⌜ (4 + u ≤ length (now journal)) × (readable (now journal) u ≡ true)
         × (entryAt (now journal) u .place + length (entryAt (now journal) u .old) ≤ length (memoryOf (memoryFor (entryAt (now journal) u)) (lent (now table) (now files) (now journal)))) ⌝ }
@@ -32,7 +32,7 @@ fn restore_one(table: &mut [u8], files: &mut [u8], journal: &[u8], u: usize)
     octets::copy(files, place, &journal[at..end]);
 }
 
-// Entries are given back, newest first, to the newest mark; what comes out is how many bytes of entries are behind that mark.
+// Gives entries back, newest first, to the newest mark, and returns how many bytes the entries take that are older than it.
 fn restore_to_mark(table: &mut [u8], files: &mut [u8], journal: &[u8], used: usize) -> usize
     requires { ⌜ (4 + used ≤ length (now journal)) × (allSound (now table) (length (now files)) (entriesBack used (now journal) used) ≡ true) × (1 ≤ marks (entriesBack used (now journal) used)) ⌝ }
     ensures { λ r. ⌜ (lent (now (table .exit)) (now (files .exit)) (now (journal .entry)) ≡ restore (sinceMark (entriesBack used (now (journal .entry)) used)) (lent (now (table .entry)) (now (files .entry)) (now (journal .entry))))
@@ -49,7 +49,7 @@ fn restore_to_mark(table: &mut [u8], files: &mut [u8], journal: &[u8], used: usi
     }
 }
 
-// The newest script of a sound card is taken back: its entries, then the head, then the freed bytes.
+// Takes back the newest script of a sound card: gives its entries back, writes the head, then zeros the freed bytes.
 pub fn take_back(table: &mut [u8], files: &mut [u8], journal: &mut [u8])
     requires { ⌜ (soundCard (lent (now table) (now files) (now journal)) ≡ true) × (1 ≤ scriptsOnTrial (now journal)) ⌝ }
     ensures { λ _. ⌜ lent (now (table .exit)) (now (files .exit)) (now (journal .exit)) ≡ takenBack (lent (now (table .entry)) (now (files .entry)) (now (journal .entry))) ⌝ }
@@ -60,7 +60,7 @@ pub fn take_back(table: &mut [u8], files: &mut [u8], journal: &mut [u8])
     octets::fill(journal, HEAD_SIZE + u, head.used - u, 0);
 }
 
-// All scripts of a journal that is zero behind its used bytes are confirmed: the head, then the rest.
+// Confirms all scripts of a journal that is zero after its used bytes: zeros the head, then the used bytes.
 pub fn confirm(journal: &mut [u8])
     requires { ⌜ (4 + usedBytes (now journal) ≤ length (now journal)) × (allZero (drop (4 + usedBytes (now journal)) (now journal)) ≡ true) ⌝ }
     ensures { λ _. ⌜ now (journal .exit) ≡ zeros (length (now (journal .entry))) ⌝ }

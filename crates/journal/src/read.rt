@@ -23,7 +23,7 @@ pub fn head_of(journal: &[u8]) -> Head
     }
 }
 
-// Returns the most that U can be.
+// Returns the most that U, the number of used bytes, can be.
 pub fn room_of(journal: &[u8]) -> usize
     requires { ⌜ 4 ≤ length (now journal) ⌝ }
     ensures { λ r. ⌜ r ≡ room (now (journal .entry)) ⌝ }
@@ -41,7 +41,7 @@ pub fn mark_fits(journal: &[u8]) -> bool
     (scripts < MOST_SCRIPTS) & (head.used + entry_bytes(0) <= room_of(journal))
 }
 
-// What the eight bytes of a tail hold.
+// Returns what the eight bytes of a tail hold.
 fn tail_of(bytes: &[u8]) -> Tail
     requires { ⌜ length (now bytes) ≡ 8 ⌝ }
     ensures { λ r. ⌜ (r ≡ tailIn (now (bytes .entry))) × (r .kind < 256) × (r .place < 65536) × (r .count < 65536) ⌝ }
@@ -53,7 +53,7 @@ fn tail_of(bytes: &[u8]) -> Tail
     }
 }
 
-// The tail that ends where the first u bytes of entries end.
+// Returns the tail that ends where the first u bytes of entries end.
 pub fn tail_at(journal: &[u8], u: usize) -> Tail
     requires { ⌜ (8 ≤ u) × (4 + u ≤ length (now journal)) ⌝ }
     ensures { λ r. ⌜ (r ≡ tailAt (now (journal .entry)) u) × (r .kind < 256) × (r .place < 65536) × (r .count < 65536) ⌝ }
@@ -62,7 +62,7 @@ pub fn tail_at(journal: &[u8], u: usize) -> Tail
     tail_of(&journal[at..at + TAIL_SIZE])
 }
 
-// Whether eight bytes have the form of a tail: bytes 1, 6 and 7 are zero.
+// Returns whether eight bytes have the form of a tail: bytes 1, 6 and 7 are zero.
 fn tail_formed(bytes: &[u8]) -> bool
     requires { ⌜ length (now bytes) ≡ 8 ⌝ }
     ensures { λ r. ⌜ r ≡ formed (now (bytes .entry)) ⌝ }
@@ -70,7 +70,7 @@ fn tail_formed(bytes: &[u8]) -> bool
     (bytes[1] == 0) & ((bytes[6] == 0) & (bytes[7] == 0))
 }
 
-// Whether a whole entry ends where the first u bytes of entries end.
+// Returns whether a whole entry ends where the first u bytes of entries end.
 pub fn is_readable(journal: &[u8], u: usize) -> bool
     requires { ⌜ 4 + u ≤ length (now journal) ⌝ }
     ensures { λ r. ⌜ r ≡ readable (now (journal .entry)) u ⌝ }

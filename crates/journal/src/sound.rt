@@ -24,7 +24,7 @@ ghost use Rattle.journal.specs.Sound.{tableByteSound, tablePlaceSound, f
 // "n 1 to 255"
 const MOST_OLD_BYTES: usize = 255;
 
-// A table byte's place in its entry, and its old value.
+// Returns whether a journal entry may hold the old value `old` for byte `at` of the table entry with the row r.
 fn table_byte_sound(r: Row, at: usize, old: usize) -> bool
     ensures { λ b. ⌜ b ≡ tableByteSound r at old ⌝ }
 {
@@ -34,7 +34,7 @@ fn table_byte_sound(r: Row, at: usize, old: usize) -> bool
     (at == card::NEWEST_BYTE) & ((r.kind == card::CYCLIC) & card::rules::newest_sound(r, old))
 }
 
-// A table byte at a place of the table, with its old value.
+// Returns whether a journal entry may hold the old value `old` for the table byte at a place.
 fn table_place_sound(table: &[u8], place: usize, old: usize) -> bool
     requires { ⌜ place < 65536 ⌝ }
     ensures { λ b. ⌜ b ≡ tablePlaceSound (now (table .entry)) place old ⌝ }
@@ -47,7 +47,8 @@ fn table_place_sound(table: &[u8], place: usize, old: usize) -> bool
     table_byte_sound(r, place % card::ENTRY_SIZE, old)
 }
 
-// An entry of a kind, with its place, its number of old bytes and the first of these.
+// Returns whether a journal entry is sound that has this kind, this place and n old bytes, the first of them `old`, beside a table
+// and a file memory of `files` bytes.
 fn form_sound(table: &[u8], files: usize, kind: usize, place: usize, n: usize, old: usize) -> bool
     requires { ⌜ (place < 65536) × (n < 65536) ⌝ }
     ensures { λ b. ⌜ b ≡ formSound (now (table .entry)) files kind place n old ⌝ }
@@ -67,7 +68,8 @@ fn form_sound(table: &[u8], files: usize, kind: usize, place: usize, n: usize, o
     table_place_sound(table, place, old)
 }
 
-// The entry that ends where the first u bytes of entries end.
+// Returns whether the entry that ends where the first u bytes of entries end is sound, beside a table and a file memory of `files`
+// bytes.
 fn entry_sound(table: &[u8], files: usize, journal: &[u8], u: usize) -> bool
     requires { ⌜ (4 + u ≤ length (now journal)) × (readable (now journal) u ≡ true) ⌝ }
     ensures { λ b. ⌜ b ≡ entrySound (now (table .entry)) files (entryAt (now (journal .entry)) u) ⌝ }
@@ -82,7 +84,7 @@ fn entry_sound(table: &[u8], files: usize, journal: &[u8], u: usize) -> bool
     form_sound(table, files, tail.kind, tail.place, n, old)
 }
 
-// 1 for a mark's kind, 0 for another.
+// Returns 1 for the kind of a mark, and 0 for another.
 fn one_if_mark(kind: usize) -> usize
     ensures { λ n. ⌜ (n ≡ pick (eqb kind marksStart) 1 0) × (n ≤ 1) ⌝ }
 {
@@ -92,8 +94,8 @@ fn one_if_mark(kind: usize) -> usize
     0
 }
 
-// The entries, read back from the end of the used bytes: they fill them exactly, each is sound, the oldest is a mark, and there
-// are as many marks as scripts on trial.
+// Returns whether the entries are sound, read back from the end of the `used` bytes: they fill these exactly, each is sound, the
+// oldest is a mark, and there are as many marks as scripts on trial.
 fn entries_sound(table: &[u8], files: usize, journal: &[u8], used: usize, scripts: usize) -> bool
     requires { ⌜ 4 + used ≤ length (now journal) ⌝ }
     ensures { λ b. ⌜ b ≡ entriesSound (now (table .entry)) files scripts (entriesBack used (now (journal .entry)) used) ⌝ }
@@ -116,7 +118,7 @@ fn entries_sound(table: &[u8], files: usize, journal: &[u8], used: usize, script
     oldest & (marks == scripts)
 }
 
-// A journal beside a table and a file memory.
+// Returns whether a journal is sound beside a table and a file memory.
 pub fn sound_journal(table: &[u8], files: &[u8], journal: &[u8]) -> bool
     ensures { λ b. ⌜ b ≡ soundJournal (now (table .entry)) (now (files .entry)) (now (journal .entry)) ⌝ }
 {
@@ -141,7 +143,7 @@ pub fn sound_journal(table: &[u8], files: &[u8], journal: &[u8]) -> bool
     entries_sound(table, files.len(), journal, used, scripts)
 }
 
-// A card: table, file memory and journal.
+// Returns whether a card is sound: its table over its file memory, and its journal beside them.
 pub fn sound_card(table: &[u8], files: &[u8], journal: &[u8]) -> bool
     ensures { λ b. ⌜ b ≡ soundCard (lent (now (table .entry)) (now (files .entry)) (now (journal .entry))) ⌝ }
 {

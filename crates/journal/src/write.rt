@@ -30,7 +30,8 @@ fn tail_bytes(kind: u8, place: usize, n: usize) -> [u8; 8]
     ]
 }
 
-// Closes the entry whose n old bytes stand behind those that the head counts: writes its tail, then the head, and returns the head after it.
+// Closes the entry whose n old bytes stand after those that the head counts: writes its tail, then the head, and returns the new
+// head.
 fn close(journal: &mut [u8], head: Head, kind: u8, place: usize, n: usize) -> Head
     requires { ⌜ 4 + head .used + entryBytes n ≤ length (now journal) ⌝ }
     ensures { λ r. ⌜ (now (journal .exit) ≡ overwrite (overwrite (now (journal .entry)) (4 + head .used + n) (tail kind place n)) 0 (headBytes (headAfter head (entryBytes n)))) × (r ≡ headAfter head (entryBytes n)) ⌝ }

@@ -1,4 +1,8 @@
--- Choices by a test that is known, tests joined by and and or, and a test of every number below a bound. Assumes nothing.
+-- Choices by a test that is known, tests joined by and and or, and a test of every number below a bound.
+-- Each law splits on the value of a test. Those of choices are stated from the choice that is wanted back to the test that decides
+-- it, so that the proof search can use them (`picks`, `choices`). The test of every number below n is made up number by number: a
+-- loop that asks for one number after the other keeps it for the numbers below k; one that fails decides (`all-fails`), one that
+-- holds makes it one longer (`all-more`), and where k is n it is the whole test (`all-ends`). Assumes nothing.
 use mathlib.Core.Path.{_≡_, refl, sym, ap, _∙_}
 use mathlib.Core.Bool.{Bool, true, false, not, _&&_, _||_, false≢true}
 use mathlib.Core.Logic.{_⊎_, inl, inr, ⊎-elim}

@@ -1,4 +1,9 @@
--- What the comparisons of runs of bytes tell, and how each goes on by one byte. Assumes nothing.
+-- What the comparisons of runs of bytes tell, and how each goes on by one byte.
+-- The loops that compare keep one equation: the whole test is what was found so far, and the test of what is left. A step takes the
+-- first byte off what is left (`zero-more`, `part-more`), and at the end nothing is left (`zero-ends`, `starts-ends`). A comparison
+-- in pieces goes on while the pieces are the same; the last piece may begin before the bytes that are left, since those it shares
+-- with earlier pieces were found the same already (`piece-last`). A search goes on by one place while the run does not begin there
+-- (`contains-goes-on`). Assumes nothing.
 use mathlib.Core.Path.{_≡_, refl, sym, ap, _∙_}
 use mathlib.Core.Bool.{Bool, true, false, _&&_, and-false, false≢true, and-assoc, and-true}
 use mathlib.Core.List.{List, [], _∷_, _++_}

@@ -1,4 +1,9 @@
--- What a write of a run of bytes at a place does: to the memory's length, its parts and its bytes, and beside another write. Assumes nothing.
+-- What a write of a run of bytes at a place does: to the memory's length, its parts and its bytes, and beside another write.
+-- A write is three runs joined: the bytes in front of it, the new bytes, and those after them. So each fact is one about taking and
+-- dropping at a seam: what lies in front or after is as it was, and what lies at the place is the new run. From these come the laws
+-- of two writes: at one place the last counts, so old bytes can be given back (`undo`); two that follow each other are one
+-- (`write-two`); and two that do not overlap can be swapped (`write-swap`). The last laws make a write out of single stored bytes,
+-- one more at a time. Assumes nothing.
 use mathlib.Core.Path.{_≡_, sym, ap, _∙_}
 use mathlib.Core.List.{List, [], _∷_, _++_, append-assoc}
 use Prim.Native.Nat.{ℕ, zero, suc, _+_, _-_, _≤_, _<_}

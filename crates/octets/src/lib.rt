@@ -5,14 +5,14 @@ ghost use Prim.Native.Nat.{_+_, _≤_, _<_};
 ghost use lib.ListN.{length, drop, replicate};
 ghost use Rattle.octets.specs.Bytes.{part, numAt, bytes2, overwrite, allZero, startsWith, contains};
 
-// A byte as a number.
+// Returns a byte as a number.
 pub fn wide(b: u8) -> usize
     ensures { λ r. ⌜ (r ≡ b) × (r < 256) ⌝ }
 {
     b as usize
 }
 
-// The 16-bit number at a place.
+// Returns the 16-bit number that stands at the place `at`.
 pub fn num_at(m: &[u8], at: usize) -> usize
     requires { ⌜ at + 2 ≤ length (now m) ⌝ }
     ensures { λ r. ⌜ (r ≡ numAt (now (m .entry)) at) × (r < 65536) ⌝ }
@@ -22,7 +22,7 @@ pub fn num_at(m: &[u8], at: usize) -> usize
     high * 256 + low
 }
 
-// A 16-bit number is written at a place.
+// Writes the lowest 16 bits of n, as two bytes, at the place `at`.
 pub fn put_num(m: &mut [u8], at: usize, n: usize)
     requires { ⌜ at + 2 ≤ length (now m) ⌝ }
     ensures { λ _. ⌜ now (m .exit) ≡ overwrite (now (m .entry)) at (bytes2 n) ⌝ }
@@ -31,7 +31,7 @@ pub fn put_num(m: &mut [u8], at: usize, n: usize)
     m[at + 1] = (n % 256) as u8;
 }
 
-// A run of bytes is copied to a place.
+// Copies the bytes of `d` into `m`, from the place `at` on.
 pub fn copy(m: &mut [u8], at: usize, d: &[u8])
     requires { ⌜ at + length (now d) ≤ length (now m) ⌝ }
     ensures { λ _. ⌜ now (m .exit) ≡ overwrite (now (m .entry)) at (now (d .entry)) ⌝ }
@@ -43,7 +43,7 @@ pub fn copy(m: &mut [u8], at: usize, d: &[u8])
     }
 }
 
-// A run of n bytes from a place on is filled with one byte.
+// Fills the n bytes from the place `at` on with the byte b.
 pub fn fill(m: &mut [u8], at: usize, n: usize, b: u8)
     requires { ⌜ at + n ≤ length (now m) ⌝ }
     ensures { λ _. ⌜ now (m .exit) ≡ overwrite (now (m .entry)) at (replicate n b) ⌝ }
@@ -55,7 +55,7 @@ pub fn fill(m: &mut [u8], at: usize, n: usize, b: u8)
     }
 }
 
-// The four bytes of a journal's head are written: used bytes, scripts on trial, flag.
+// Writes the four bytes of a journal's head: used bytes, scripts on trial, flag.
 pub fn put_head(m: &mut [u8], used: usize, scripts: u8, flag: u8)
     requires { ⌜ 4 ≤ length (now m) ⌝ }
     ensures { λ _. ⌜ now (m .exit) ≡ overwrite (now (m .entry)) 0 (bytes2 used ++ (scripts ∷ flag ∷ [])) ⌝ }
@@ -66,7 +66,7 @@ pub fn put_head(m: &mut [u8], used: usize, scripts: u8, flag: u8)
     m[3] = flag;
 }
 
-// Whether every byte is zero.
+// Returns whether every byte is zero.
 pub fn all_zero(m: &[u8]) -> bool
     ensures { λ r. ⌜ r ≡ allZero (now (m .entry)) ⌝ }
 {
@@ -79,7 +79,7 @@ pub fn all_zero(m: &[u8]) -> bool
     zero
 }
 
-// Whether n bytes of a run, from one of its places on, stand at a place of the memory; all of them are compared.
+// Returns whether the n bytes of `d` from the place `from` on stand in `m` at the place `at`; all of them are compared.
 fn same_part(m: &[u8], at: usize, d: &[u8], from: usize, n: usize) -> bool
     requires { ⌜ (at + n ≤ length (now m)) × (from + n ≤ length (now d)) ⌝ }
     ensures { λ r. ⌜ r ≡ startsWith (drop at (now (m .entry))) (part (now (d .entry)) from n) ⌝ }
@@ -93,7 +93,8 @@ fn same_part(m: &[u8], at: usize, d: &[u8], from: usize, n: usize) -> bool
     same
 }
 
-// Whether the bytes from a place on begin with a run of bytes, compared some bytes at a time; the last of them end the run.
+// Returns whether the bytes of `m` from the place `at` on begin with `d`, compared `width` bytes at a time; at last come the final
+// `width` bytes of `d`.
 fn starts_by(m: &[u8], at: usize, d: &[u8], width: usize) -> bool
     requires { ⌜ (at + length (now d) ≤ length (now m)) × ((0 < width) × (width ≤ length (now d))) ⌝ }
     ensures { λ r. ⌜ r ≡ startsWith (drop at (now (m .entry))) (now (d .entry)) ⌝ }
@@ -109,7 +110,7 @@ fn starts_by(m: &[u8], at: usize, d: &[u8], width: usize) -> bool
     same_part(m, at + last, d, last, width)
 }
 
-// Whether the bytes from a place on begin with a run of bytes: most often the first byte tells.
+// Returns whether the bytes of `m` from the place `at` on begin with `d`: most often the first byte tells.
 pub fn starts_at(m: &[u8], at: usize, d: &[u8]) -> bool
     requires { ⌜ at + length (now d) ≤ length (now m) ⌝ }
     ensures { λ r. ⌜ r ≡ startsWith (drop at (now (m .entry))) (now (d .entry)) ⌝ }
@@ -132,7 +133,7 @@ pub fn starts_at(m: &[u8], at: usize, d: &[u8]) -> bool
     starts_by(m, at, d, 1)
 }
 
-// Whether a run of bytes stands somewhere in the memory, in one piece; it is compared where it lies.
+// Returns whether `d` stands somewhere in `m`, in one piece; it is compared where it lies.
 pub fn within(m: &[u8], d: &[u8]) -> bool
     ensures { λ r. ⌜ r ≡ contains (now (m .entry)) (now (d .entry)) ⌝ }
 {

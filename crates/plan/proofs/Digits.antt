@@ -1,4 +1,9 @@
--- A sum digit by digit from the right: the numbers that the last bytes are, the carry, and the bytes written so far. Assumes nothing.
+-- A sum digit by digit from the right: the numbers that the last bytes are, the carry, and the bytes written so far.
+-- The loop of `add` keeps `Adding`: after i digits `out` holds, at the end of the record's length, the last i bytes of the sum of
+-- what the last i bytes of both numbers are, and the carry is that sum divided by 256 ^ i. The next digits x and y add
+-- (x + y) * 256 ^ i to it, so the next byte and the next carry are remainder and quotient of x + y + carry by 256 (`bytes-more`,
+-- `carry-more`), and the byte is stored in front of those written (`write-front-byte`). After as many digits as the first number
+-- has it is the whole sum (`ends`). Assumes nothing.
 use mathlib.Core.Path.{_≡_, refl, sym, ap, _∙_}
 use mathlib.Core.List.{List, [], _∷_, _++_}
 use Prim.Native.Nat.{ℕ, zero, suc, _+_, _-_, _*_, _/_, _%_, _^_, _≤_, _<_}

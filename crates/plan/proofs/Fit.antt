@@ -1,4 +1,10 @@
--- The plan of each instruction: what it writes is of a sound form where it goes, its session is good, and, if P3 is a byte, the data of its outcome lie in the file memory or in the waiting bytes. Assumes nothing.
+-- The plan of each instruction: what it writes is of a sound form where it goes, its session is good, and, if P3 is a byte, the
+-- data of its outcome lie in the file memory or in the waiting bytes.
+-- Every plan but that of GET RESPONSE ends in one of four ways, and each of them fits where its writes, its session and its data do
+-- (`fit-failed`, `fit-done`, `fit-handed`, `fit-produced`). So of each instruction it is left to show where its bytes lie: the file
+-- lies in the file memory and a record in the file, as the table is sound; what is written is of a sound form by the laws of
+-- `Placed`; what is made is at most 255 bytes; and the session moves to an entry that was found, or to a record that the file has.
+-- Assumes nothing.
 use mathlib.Core.Path.{_≡_}
 use mathlib.Core.Bool.{true, false}
 use mathlib.Core.List.{List, [], _∷_, _++_}

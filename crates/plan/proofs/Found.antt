@@ -1,4 +1,8 @@
--- A search step by step: which record comes next, what is found of those that are left, and where it is noted. Assumes nothing.
+-- A search step by step: which record comes next, what is found of those that are left, and where it is noted.
+-- The loop of `search` keeps `Going`: `left` records are still to be searched, from `number` on; the numbers noted so far stand at
+-- the start of `out`; and they, followed by what is found among the records that are left, are what the whole search finds. A step
+-- takes one record off (`found-next`), notes its number or not, and goes on to the next number, up or down as P2 says, which is one
+-- of the file's while any is left (`next-inside`). With none left the notes are the whole (`ends`). Assumes nothing.
 use mathlib.Core.Path.{_≡_, refl, sym, ap, _∙_}
 use mathlib.Core.Bool.{Bool, true, false}
 use mathlib.Core.List.{List, [], _++_, append-assoc, append-nil}

@@ -24,7 +24,7 @@ use Rattle.plan.specs.Ends.{Plan, failed}
 use Rattle.plan.specs.Files.{File, sumTooLong}
 use Rattle.plan.specs.Plans.{namedBy}
 
--- what every record file of a sound table has, over a file memory of so many bytes
+-- what every record file of a sound table has, over a file memory of `files` bytes
 pub record Recorded (files : ℕ) (r : Row) : Type 0 where
   pub narrow : Narrow r
   pub least : 1 ≤ r .«record_length»
@@ -58,14 +58,15 @@ planOf d «data» bytes =
       writes = writesOf (d .change) «data» bytes;
     }
 
--- where a new record lies, in a table and a file memory of so many bytes
+-- where a new record lies, in a table of `table` bytes and a file memory of `files` bytes
 pub record RecordFits (table files : ℕ) (r : NewRecord) : Type 0 where
   pub file : r .start + r .size ≤ files
   pub inside : r .«record_length» * r .place + r .«record_length» ≤ r .size
   pub entry : placeOfNewest (r .entry) < table
   pub byte : r .place < 256
 
--- what writing a new record asks for: it lies inside the card, its bytes are a record, and the journal, whose head is given, has room for its writes
+-- what writing a new record asks for: it lies inside the card, its bytes are a record, and the journal, whose head is given, has
+-- room for its writes
 pub record WriteRecordFits (table files journal : List ℕ) (h : Head) (r : NewRecord) (new : List ℕ) : Type 0 where
   pub fits : RecordFits (length table) (length files) r
   pub whole : length new ≡ r .«record_length»
@@ -73,7 +74,8 @@ pub record WriteRecordFits (table files journal : List ℕ) (h : Head) (r : NewR
   pub short : length journal ≤ 65535
   pub left : HasRoom journal (cost (recordWrites r new))
 
--- a change lies inside a table and a file memory of so many bytes, with so many data bytes and 255 bytes for what is made
+-- a change lies inside a table of `table` bytes and a file memory of `files` bytes, with `lc` data bytes and 255 bytes for what is
+-- made
 unfoldable pub Fits : ℕ → ℕ → ℕ → Change → Type 0
 Fits table files lc Nothing = Unit
 Fits table files lc (Content start size offset) = (start + size ≤ files) × (offset + lc ≤ size)
@@ -93,7 +95,7 @@ updateChange c s r =
     (DataRecord (newestOf (s .file) r))
     (Content (r .start) (r .size) (recordOffset r (namedBy c (s .number) r)))
 
--- a plan behind the check of a file command's sum
+-- a plan after the check of a file command's sum
 unfoldable pub summed : ℕ → File → List ℕ → Standing → Plan → Plan
 summed i f «data» s plan = pick (sumTooLong i f «data») (failed s SumTooLong) plan
 

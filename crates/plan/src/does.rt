@@ -33,7 +33,7 @@ ghost use Rattle.plan.specs.Files.{File};
 ghost use Rattle.plan.specs.Promised.{Recorded, planOf, Fits, newestOf, updateChange, summed};
 ghost use Rattle.plan.specs.Plans as plans;
 
-// The word of a SELECT that finds an entry.
+// Returns the word of a SELECT that finds an entry.
 fn select_word(r: Row) -> usize
     ensures { λ w. ⌜ w ≡ plans.selectWord r ⌝ }
 {
@@ -43,7 +43,7 @@ fn select_word(r: Row) -> usize
     NORMAL
 }
 
-// SELECT of an entry with its row.
+// Returns what SELECT of entry e, with its row r, does; an FCP is put at the start of `made`.
 pub fn select_entry(
     format: Format,
     s: Standing,
@@ -64,7 +64,7 @@ pub fn select_entry(
     produced(format, next, n, word, Change::Nothing)
 }
 
-// The most that P3 00 reads.
+// Returns the most bytes that P3 00 reads.
 fn most_read(format: Format) -> usize
     ensures { λ n. ⌜ n ≡ plans.mostRead format ⌝ }
 {
@@ -74,7 +74,7 @@ fn most_read(format: Format) -> usize
     }
 }
 
-// The smaller of two numbers.
+// Returns the smaller of two numbers.
 fn least(a: usize, b: usize) -> usize
     ensures { λ n. ⌜ n ≡ min a b ⌝ }
 {
@@ -84,7 +84,7 @@ fn least(a: usize, b: usize) -> usize
     b
 }
 
-// READ BINARY.
+// Returns what READ BINARY does.
 pub fn read_binary(format: Format, c: Command, s: Standing, r: Row) -> Decision
     requires { ⌜ Narrow r × (c .p1 < 256) × (c .p2 < 256) × (plans.offsetOf c < r .size) ⌝ }
     ensures { λ d. ⌜ ((«data» bytes : List ℕ) (f : File) → f .row ≡ r → planOf d «data» bytes ≡ plans.readBinary format c s f) × (d .change ≡ Change.Nothing) ⌝ }
@@ -101,7 +101,7 @@ pub fn read_binary(format: Format, c: Command, s: Standing, r: Row) -> Decision
     handed(s, END_OF_DATA, place, left)
 }
 
-// UPDATE BINARY.
+// Returns what UPDATE BINARY does.
 pub fn update_binary(c: Command, s: Standing, r: Row) -> Decision
     requires { ⌜ (c .p1 < 256) × (c .p2 < 256) ⌝ }
     ensures { λ d. ⌜ ((«data» bytes : List ℕ) (f : File) → f .row ≡ r → planOf d «data» bytes ≡ plans.updateBinary c «data» s f) × (d .change ≡ Change.Content (r .start) (r .size) (plans.offsetOf c)) ⌝ }
@@ -110,7 +110,7 @@ pub fn update_binary(c: Command, s: Standing, r: Row) -> Decision
     done(s, NORMAL, Change::Content(r.start, r.size, offset))
 }
 
-// READ RECORD.
+// Returns what READ RECORD does.
 pub fn read_record(c: Command, s: Standing, r: Row) -> Decision
     requires { ⌜ Narrow r × (1 ≤ r .«record_length») × (recordCount r < 256) × (1 ≤ plans.namedBy c (s .number) r) × (plans.namedBy c (s .number) r ≤ recordCount r) ⌝ }
     ensures { λ d. ⌜ ((«data» bytes : List ℕ) (f : File) → f .row ≡ r → planOf d «data» bytes ≡ plans.readRecord c s f) × (d .change ≡ Change.Nothing) ⌝ }
@@ -122,7 +122,7 @@ pub fn read_record(c: Command, s: Standing, r: Row) -> Decision
     handed(next, NORMAL, place, r.record_length)
 }
 
-// The new record of a cyclic file.
+// Returns the new record of a cyclic file, at the oldest place.
 fn new_record(file: usize, r: Row) -> NewRecord
     requires { ⌜ Narrow r × (1 ≤ r .«record_length») × (1 ≤ recordCount r) ⌝ }
     ensures { λ n. ⌜ n ≡ newestOf file r ⌝ }
@@ -136,7 +136,7 @@ fn new_record(file: usize, r: Row) -> NewRecord
     }
 }
 
-// UPDATE RECORD.
+// Returns what UPDATE RECORD does.
 pub fn update_record(c: Command, s: Standing, r: Row) -> Decision
     requires { ⌜ Narrow r × (1 ≤ r .«record_length») × (1 ≤ recordCount r) × (recordCount r < 256) × (isCyclic r ≡ false → (1 ≤ plans.namedBy c (s .number) r) × (plans.namedBy c (s .number) r ≤ recordCount r)) ⌝ }
     ensures { λ d. ⌜ ((«data» bytes : List ℕ) (f : File) → f .row ≡ r → f .entry ≡ s .file → planOf d «data» bytes ≡ plans.updateRecord c «data» s f) × (d .change ≡ updateChange c s r) ⌝ }
@@ -152,7 +152,7 @@ pub fn update_record(c: Command, s: Standing, r: Row) -> Decision
     done(next, NORMAL, Change::Content(r.start, r.size, offset))
 }
 
-// SEARCH.
+// Returns what SEARCH does; the numbers that it finds are put at the start of `made`.
 pub fn search_records(
     format: Format,
     c: Command,
@@ -174,7 +174,7 @@ pub fn search_records(
     produced(format, next, n, NORMAL, Change::Nothing)
 }
 
-// INCREASE: it makes the sum and then the added bytes.
+// Returns what INCREASE does; the sum and then the added bytes are put at the start of `made`.
 pub fn increase(
     format: Format,
     data: &[u8],
@@ -204,7 +204,7 @@ pub fn increase(
     )
 }
 
-// DEACTIVATE and ACTIVATE: the state that the file gets.
+// Returns what DEACTIVATE and ACTIVATE do: the file gets the state `state`.
 pub fn switch(state: usize, s: Standing) -> Decision
     requires { ⌜ s .file < 64 ⌝ }
     ensures { λ d. ⌜ ((«data» bytes : List ℕ) (f : File) → f .entry ≡ s .file → planOf d «data» bytes ≡ plans.switch state s f) × (d .change ≡ Change.TableByte (placeOfState (s .file)) state) ⌝ }

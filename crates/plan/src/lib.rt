@@ -46,14 +46,14 @@ pub struct Decision {
     pub change: Change,
 }
 
-// The entry number of the file that a command works on.
+// Returns the entry number of the file that a command works on.
 pub fn target(s: Standing) -> usize
     ensures { λ e. ⌜ e ≡ files-spec.target s ⌝ }
 {
     s.file as usize
 }
 
-// It ends with the word of a check that failed, changing nothing.
+// Returns the decision of a command that ends with the word of a check that failed, changing nothing.
 pub fn failed(s: Standing, k: Check) -> Decision
     ensures { λ d. ⌜ ((«data» bytes : List ℕ) → planOf d «data» bytes ≡ spec.failed s k) × (d .change ≡ Change.Nothing) ⌝ }
 {
@@ -65,7 +65,7 @@ pub fn failed(s: Standing, k: Check) -> Decision
     }
 }
 
-// It ends well, with a word and no data.
+// Returns the decision of a command that ends well, with a word and no data.
 pub fn done(s: Standing, word: usize, change: Change) -> Decision
     ensures { λ d. ⌜ ((«data» bytes : List ℕ) → planOf d «data» bytes ≡ spec.done s word (writesOf change «data» bytes)) × (d .change ≡ change) ⌝ }
 {
@@ -78,7 +78,7 @@ pub fn done(s: Standing, word: usize, change: Change) -> Decision
     }
 }
 
-// It ends well, with a part of the file memory.
+// Returns the decision of a command that ends well, with the n bytes of the file memory from a place on.
 pub fn handed(s: Standing, word: usize, place: usize, n: usize) -> Decision
     ensures { λ d. ⌜ ((«data» bytes : List ℕ) → planOf d «data» bytes ≡ spec.handed s word place n) × (d .change ≡ Change.Nothing) ⌝ }
 {
@@ -91,7 +91,7 @@ pub fn handed(s: Standing, word: usize, place: usize, n: usize) -> Decision
     }
 }
 
-// It ends well, with the first waiting bytes, and leaves the session as it is.
+// Returns the decision of a command that ends well, with the first n waiting bytes, and leaves the session as it is.
 pub fn waited(s: Standing, word: usize, n: usize) -> Decision
     ensures { λ d. ⌜ (d .session ≡ s) × (d .outcome ≡ Outcome.FromWaiting word n) × (d .made ≡ 0) × (d .change ≡ Change.Nothing) ⌝ }
 {
@@ -103,7 +103,7 @@ pub fn waited(s: Standing, word: usize, n: usize) -> Decision
     }
 }
 
-// It ends well, with n bytes that it made.
+// Returns the decision of a command that ends well, with n bytes that it made.
 pub fn produced(format: Format, s: Standing, n: usize, word: usize, change: Change) -> Decision
     requires { ⌜ (n ≤ mostWaiting) × (word < 65536) ⌝ }
     ensures { λ d. ⌜ ((«data» bytes out rest : List ℕ) → bytes ≡ overwrite rest 0 out → n ≡ length out → planOf d «data» bytes ≡ spec.produced format s word out (writesOf change «data» bytes)) × (d .change ≡ change) ⌝ }

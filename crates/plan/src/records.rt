@@ -15,7 +15,7 @@ pub const MODE_PREVIOUS: usize = 3;
 
 pub const MODE_ABSOLUTE: usize = 4;
 
-// The record after the current one; 0 where there is none.
+// Returns the record after the current one, or 0 where there is none.
 fn next_record(r: Row, number: usize) -> usize
     requires { ⌜ 1 ≤ r .«record_length» ⌝ }
     ensures { λ n. ⌜ n ≡ spec.nextRecord r number ⌝ }
@@ -29,7 +29,7 @@ fn next_record(r: Row, number: usize) -> usize
     0
 }
 
-// The record before the current one; 0 where there is none.
+// Returns the record before the current one, or 0 where there is none.
 fn previous_record(r: Row, number: usize) -> usize
     requires { ⌜ 1 ≤ r .«record_length» ⌝ }
     ensures { λ n. ⌜ n ≡ spec.previousRecord r number ⌝ }
@@ -46,7 +46,7 @@ fn previous_record(r: Row, number: usize) -> usize
     number - 1
 }
 
-// The record of P1, or the current one for 00.
+// Returns the record that P1 names, or the current one for 00.
 fn absolute_record(p1: usize, number: usize) -> usize
     ensures { λ n. ⌜ n ≡ spec.absoluteRecord p1 number ⌝ }
 {
@@ -56,7 +56,7 @@ fn absolute_record(p1: usize, number: usize) -> usize
     p1
 }
 
-// The record that a record command names, from the current record number.
+// Returns the record that a record command names, from the current record number.
 pub fn record_of(c: Command, number: usize, r: Row) -> usize
     requires { ⌜ 1 ≤ r .«record_length» ⌝ }
     ensures { λ n. ⌜ n ≡ namedBy c number r ⌝ }
@@ -73,7 +73,7 @@ pub fn record_of(c: Command, number: usize, r: Row) -> usize
     absolute_record(c.p1, number)
 }
 
-// The record number after B2 or DC named a record.
+// Returns the record number after B2 or DC named a record.
 pub fn number_after(p2: usize, number: usize, named: usize) -> usize
     ensures { λ n. ⌜ n ≡ spec.numberAfter p2 number named ⌝ }
 {
@@ -83,7 +83,7 @@ pub fn number_after(p2: usize, number: usize, named: usize) -> usize
     named
 }
 
-// Whether a file has a record of a number.
+// Returns whether a file has the record of a number.
 pub fn has_record(r: Row, number: usize) -> bool
     requires { ⌜ 1 ≤ r .«record_length» ⌝ }
     ensures { λ b. ⌜ b ≡ spec.hasRecord r number ⌝ }

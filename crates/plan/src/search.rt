@@ -16,7 +16,7 @@ pub const SEARCH_FORWARD: usize = 4;
 
 pub const SEARCH_BACKWARD: usize = 5;
 
-// Whether a record of a file contains the data.
+// Returns whether a record of a file contains the data.
 fn record_contains(files: &[u8], r: Row, number: usize, data: &[u8]) -> bool
     requires { ⌜ Recorded (length (now files)) r × (1 ≤ number) × (number ≤ recordCount r) ⌝ }
     ensures { λ b. ⌜ b ≡ contains (spec.recordBytes r (part (now (files .entry)) (r .start) (r .size)) number) (now («data» .entry)) ⌝ }
@@ -26,7 +26,7 @@ fn record_contains(files: &[u8], r: Row, number: usize, data: &[u8]) -> bool
     octets::within(&files[at..end], data)
 }
 
-// A number is noted at a place of `out` if it was found; what comes out is the place after the notes.
+// Notes a number at place n of `out` if it was found, and returns the place after the notes.
 fn note(out: &mut [u8], n: usize, number: usize, found: bool) -> usize
     requires { ⌜ (n < length (now out)) × (number < 256) ⌝ }
     ensures { λ m. ⌜ (now (out .exit) ≡ overwrite (now (out .entry)) n (spec.noted found number)) × (m ≡ n + length (spec.noted found number)) ⌝ }
@@ -38,7 +38,7 @@ fn note(out: &mut [u8], n: usize, number: usize, found: bool) -> usize
     n
 }
 
-// The number that comes next.
+// Returns the number of the record that is searched next.
 fn next_searched(p2: usize, number: usize) -> usize
     requires { ⌜ (1 ≤ number) × (number < 256) ⌝ }
     ensures { λ n. ⌜ n ≡ spec.nextSearched p2 number ⌝ }
@@ -49,7 +49,7 @@ fn next_searched(p2: usize, number: usize) -> usize
     number - 1
 }
 
-// How many records are to be searched from a number on.
+// Returns how many records are to be searched from a number on.
 fn to_search(r: Row, p2: usize, number: usize) -> usize
     requires { ⌜ (1 ≤ r .«record_length») × (1 ≤ number) × (number ≤ recordCount r) × (recordCount r < 255) ⌝ }
     ensures { λ n. ⌜ n ≡ spec.toSearch r p2 number ⌝ }
@@ -60,7 +60,8 @@ fn to_search(r: Row, p2: usize, number: usize) -> usize
     number
 }
 
-// The numbers of the records that contain the data, from a record on, are put at the start of `out`; what comes out is how many.
+// Puts the numbers of the records that contain the data, from record `from` on, at the start of `out`, and returns how many there
+// are.
 pub fn search(files: &[u8], r: Row, p2: usize, from: usize, data: &[u8], out: &mut [u8]) -> usize
     requires { ⌜ Recorded (length (now files)) r × (1 ≤ from) × (from ≤ recordCount r) × (length (now out) ≡ mostWaiting) ⌝ }
     ensures { λ n. ⌜ (now (out .exit) ≡ overwrite (now (out .entry)) 0 (spec.foundRecords r (part (now (files .entry)) (r .start) (r .size)) p2 (now («data» .entry)) from))

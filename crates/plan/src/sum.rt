@@ -5,7 +5,7 @@ ghost use lib.ListN.{length};
 ghost use Rattle.octets.specs.Bytes.{value, bytesOf, overwrite};
 ghost use Rattle.plan.specs.Sums.{fromRight};
 
-// A number's byte at a place counted from its right end, and 0 in front of it.
+// Returns a number's byte at place i, counted from its right end, and 0 in front of the number.
 fn from_right(number: &[u8], i: usize) -> usize
     ensures { λ b. ⌜ (b ≡ fromRight (now (number .entry)) i) × (b < 256) ⌝ }
 {
@@ -16,7 +16,8 @@ fn from_right(number: &[u8], i: usize) -> usize
     0
 }
 
-// The sum of two numbers as so many bytes as the first has, put at the start of `out`; what comes out is the carry, 0 where the sum fits.
+// Puts the sum of two numbers at the start of `out`, in the number of bytes that `first` has, and returns the carry, 0 where the
+// sum fits.
 pub fn add(first: &[u8], added: &[u8], out: &mut [u8]) -> usize
     requires { ⌜ (length (now added) ≤ length (now first)) × (length (now first) ≤ length (now out)) ⌝ }
     ensures { λ c. ⌜ (c ≡ (value (now (first .entry)) + value (now (added .entry))) / 256 ^ length (now (first .entry)))

@@ -1,4 +1,9 @@
--- The session of a script on a sound table: it starts good, what it finds belongs to its root, and it stays good. Assumes nothing.
+-- The session of a script on a sound table: it starts good, what it finds belongs to its root, and it stays good.
+-- A good session is a record of facts about its root, directory, file, record number and waiting bytes; a move changes some of them
+-- and takes the others over (`good-moved`). A directory that is selected becomes the directory, a file makes its parent the
+-- directory, and both belong to the root, as the entry that SELECT finds does (`find-belongs`). None of the facts looks at the two
+-- bytes of a row that commands write, so a good session is good on a table whose rows are alike but for these, too (`good-kept`).
+-- Assumes nothing.
 use mathlib.Core.Path.{_≡_, refl, ap, _∙_}
 use mathlib.Core.Bool.{true, false}
 use mathlib.Core.List.{List}

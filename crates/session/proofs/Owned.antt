@@ -1,4 +1,9 @@
--- What SELECT finds on a sound table belongs to the root that it starts from, so nothing of another application is ever found. Assumes nothing.
+-- What SELECT finds on a sound table belongs to the root that it starts from, so nothing of another application is ever found.
+-- An entry belongs to the root where its way up ends. One that is no root has its parent's root, so with a directory its children
+-- belong (`child-belongs`), and with an entry that is no root its parent does (`parent-belongs`). Every way of SELECT is made of
+-- such steps: the root itself, a child, the parent and its DF children where the directory is not the root, and a path of children,
+-- by induction over its identifiers. `Only` says that a finding, if there is one, belongs: of each way, and so of the first that
+-- finds. Assumes nothing.
 use mathlib.Core.Path.{_≡_, refl, sym, ap, _∙_}
 use mathlib.Core.Bool.{Bool, true, false}
 use mathlib.Core.List.{List, [], _∷_}

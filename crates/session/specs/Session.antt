@@ -41,7 +41,7 @@ sessionOf standing waiting = record { standing = standing; waiting = waiting }
 abbrev pub start : ℕ → Session
 start application = sessionOf (startStanding application) startWaiting
 
--- so many of the waiting bytes wait, with a word kept
+-- the first `valid` of the waiting bytes wait, with a word kept
 unfoldable pub waits : Standing → ℕ → ℕ → Standing
 waits s valid word =
     record {

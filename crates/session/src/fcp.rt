@@ -9,7 +9,7 @@ ghost use Rattle.card.specs.Row.{Narrow, isDirectory, isTransparent};
 ghost use Rattle.session.specs.Fcp.{FcpFits};
 ghost use Rattle.session.specs.Fcp as spec;
 
-// A directory's.
+// Returns the FCP of a directory.
 fn of_directory(r: Row) -> [u8; 13]
     requires { ⌜ (isDirectory r ≡ true) × Narrow r ⌝ }
     ensures { λ b. ⌜ b ≡ spec.fcp r ⌝ }
@@ -31,7 +31,7 @@ fn of_directory(r: Row) -> [u8; 13]
     ]
 }
 
-// A transparent file's.
+// Returns the FCP of a transparent file.
 fn of_transparent(r: Row) -> [u8; 17]
     requires { ⌜ (isTransparent r ≡ true) × Narrow r ⌝ }
     ensures { λ b. ⌜ b ≡ spec.fcp r ⌝ }
@@ -57,7 +57,7 @@ fn of_transparent(r: Row) -> [u8; 17]
     ]
 }
 
-// 42 for a linear file, 46 for a cyclic one.
+// Returns the file descriptor byte of a record file: 42 for a linear one, 46 for a cyclic one.
 fn record_descriptor(r: Row) -> u8
     requires { ⌜ (5 ≤ r .kind) × (r .kind ≤ 6) ⌝ }
     ensures { λ b. ⌜ b ≡ spec.descriptor r ⌝ }
@@ -68,7 +68,7 @@ fn record_descriptor(r: Row) -> u8
     0x46
 }
 
-// A record file's.
+// Returns the FCP of a record file.
 fn of_records(r: Row) -> [u8; 20]
     requires { ⌜ (5 ≤ r .kind) × (r .kind ≤ 6) × FcpFits r × Narrow r ⌝ }
     ensures { λ b. ⌜ b ≡ spec.fcp r ⌝ }
@@ -98,7 +98,7 @@ fn of_records(r: Row) -> [u8; 20]
     ]
 }
 
-// The FCP of an entry of a sound table is put at the start of some bytes; what comes out is its length.
+// Puts the FCP of an entry of a sound table at the start of `bytes`, and returns its length.
 pub fn put_fcp(bytes: &mut [u8], r: Row) -> usize
     requires { ⌜ (20 ≤ length (now bytes)) × FcpFits r × Narrow r ⌝ }
     ensures { λ n. ⌜ (now (bytes .exit) ≡ overwrite (now (bytes .entry)) 0 (spec.fcp r)) × (n ≡ length (spec.fcp r)) × (n ≤ 20) ⌝ }

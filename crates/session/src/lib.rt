@@ -25,7 +25,7 @@ pub struct Session {
     pub waiting: [u8; 255],
 }
 
-// The session that a script of an application starts with: "255 waiting bytes of zero, none of them valid".
+// Returns the session that a script of an application starts with: "255 waiting bytes of zero, none of them valid".
 pub fn start(application: usize) -> Session
     requires { ⌜ application < 256 ⌝ }
     ensures { λ s. ⌜ s ≡ spec.start application ⌝ }
@@ -45,7 +45,7 @@ pub fn start(application: usize) -> Session
     }
 }
 
-// So many bytes wait, with a word kept.
+// Returns where the script stands once the first `valid` of the waiting bytes wait, with `word` kept for them.
 pub fn waits(s: Standing, valid: usize, word: usize) -> Standing
     requires { ⌜ (valid < 256) × (word < 65536) ⌝ }
     ensures { λ r. ⌜ r ≡ spec.waits s valid word ⌝ }
@@ -56,14 +56,14 @@ pub fn waits(s: Standing, valid: usize, word: usize) -> Standing
     next
 }
 
-// What waited is dropped.
+// Returns where the script stands once what waited is dropped.
 pub fn dropped(s: Standing) -> Standing
     ensures { λ r. ⌜ r ≡ spec.dropped s ⌝ }
 {
     waits(s, 0, 0)
 }
 
-// The record number moves.
+// Returns where the script stands once its record number is `number`.
 pub fn at_record(s: Standing, number: usize) -> Standing
     requires { ⌜ number < 256 ⌝ }
     ensures { λ r. ⌜ r ≡ spec.atRecord s number ⌝ }
@@ -73,7 +73,7 @@ pub fn at_record(s: Standing, number: usize) -> Standing
     next
 }
 
-// Directory, file and record number move.
+// Returns where the script stands once it has moved to a directory, a file and a record number.
 fn moved(s: Standing, directory: usize, file: usize, number: u8) -> Standing
     requires { ⌜ (directory < 256) × (file < 256) ⌝ }
     ensures { λ r. ⌜ r ≡ spec.moved s directory file number ⌝ }
@@ -85,7 +85,7 @@ fn moved(s: Standing, directory: usize, file: usize, number: u8) -> Standing
     next
 }
 
-// The session after an entry with its row was selected.
+// Returns where the script stands after entry e, with its row r, was selected.
 pub fn selected(s: Standing, e: usize, r: Row) -> Standing
     requires { ⌜ (e < 256) × (r .parent < 256) ⌝ }
     ensures { λ n. ⌜ n ≡ spec.selected s e r ⌝ }

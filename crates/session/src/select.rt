@@ -8,7 +8,7 @@ ghost use Rattle.card.specs.Row.{entries};
 ghost use Rattle.card.specs.Tree.{ParentsInside};
 ghost use Rattle.session.specs.Select as spec;
 
-// An entry, if it has the identifier.
+// Returns entry e, if it has the identifier.
 fn if_named(table: &[u8], e: usize, identifier: usize) -> Found
     requires { ⌜ e < entries (now table) ⌝ }
     ensures { λ f. ⌜ f ≡ spec.ifNamed (now (table .entry)) e identifier ⌝ }
@@ -20,7 +20,7 @@ fn if_named(table: &[u8], e: usize, identifier: usize) -> Found
     Found::Nothing
 }
 
-// A directory's parent, or a DF child of that parent.
+// Returns the parent of a directory if it has the identifier, or else the DF child of that parent which has it.
 fn above(table: &[u8], parent: usize, identifier: usize) -> Found
     requires { ⌜ parent < entries (now table) ⌝ }
     ensures { λ f. ⌜ f ≡ spec.above (now (table .entry)) parent identifier ⌝ }
@@ -31,7 +31,7 @@ fn above(table: &[u8], parent: usize, identifier: usize) -> Found
     Found::At(e)
 }
 
-// "P1 00": what an identifier finds.
+// Returns what an identifier finds from a root and a directory: "P1 00".
 fn by_identifier(table: &[u8], root: usize, directory: usize, identifier: usize) -> Found
     requires { ⌜ (root < entries (now table)) × (directory < entries (now table)) × ParentsInside (now table) ⌝ }
     ensures { λ f. ⌜ f ≡ spec.byIdentifier (now (table .entry)) root directory identifier ⌝ }
@@ -49,7 +49,7 @@ fn by_identifier(table: &[u8], root: usize, directory: usize, identifier: usize)
     above(table, parent, identifier)
 }
 
-// What a path of identifiers finds from an entry on, each a child of the one before.
+// Returns what a path of identifiers finds from the entry `from` on, each a child of the one before.
 fn by_path(table: &[u8], from: usize, path: &[u8]) -> Found
     ensures { λ f. ⌜ f ≡ spec.byPath (now (table .entry)) from (now (path .entry)) ⌝ }
 {
@@ -68,7 +68,7 @@ fn by_path(table: &[u8], from: usize, path: &[u8]) -> Found
     Found::At(e)
 }
 
-// The entry that a SELECT finds, from a root and a directory, with its P1 and data.
+// Returns the entry that a SELECT finds, from a root and a directory, with its P1 and data.
 pub fn find(table: &[u8], root: usize, directory: usize, p1: usize, data: &[u8]) -> Found
     requires { ⌜ (root < entries (now table)) × (directory < entries (now table)) × ParentsInside (now table) × (2 ≤ length (now «data»)) ⌝ }
     ensures { λ f. ⌜ f ≡ spec.find (now (table .entry)) root directory p1 (now («data» .entry)) ⌝ }

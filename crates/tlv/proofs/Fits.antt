@@ -33,7 +33,7 @@ value-fits (Found n place) at end more fits =
     (λ other. (more, omega arith))
 value-fits (Bad code) at end more fits = (more, fits)
 
--- a length n of so many bytes behind its first byte, which is in shortest form from a least one on
+-- a length n that stands in `size` bytes after its first byte, and is in shortest form from `least` on
 behind-fits : (at end size least n : ℕ) → n < 65536
     → LengthFits at end (pick (leb (at + 1 + size) end) (pick (leb least n) (Found n (at + 1 + size)) (Bad wrongLength)) (Bad lengthMissing))
 unfolding LengthFits

@@ -59,7 +59,7 @@ itemAt script at end =
     (pick (isCapduTag (byte script at)) (valueAt (lengthAt script (at + 1) end) end) (Bad otherTag))
     End
 
--- a C-APDU that stands there lies in the value, behind the place, and has its four bytes; a bad format stands in the value
+-- a C-APDU that stands there lies in the value, after the place, and has at least four bytes; a bad format stands in the value
 unfoldable pub ItemFits : ℕ → ℕ → Item → Type 0
 ItemFits at end (Capdu from size) = (at < from) × (from + size ≤ end) × (leastCapdu ≤ size)
 ItemFits at end (Bad code) = (at < end) × (code < 256)

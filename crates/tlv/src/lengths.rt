@@ -18,7 +18,7 @@ pub enum Length {
     Bad(usize),
 }
 
-// A length in the form 81, whose byte stands at a place of bytes that end at `end`.
+// Returns the length in the form 81 whose byte stands at the place `at`, in bytes that end at `end`.
 fn short_length(bytes: &[u8], at: usize, end: usize) -> Length
     requires { ⌜ (at ≤ end) × (end ≤ length (now bytes)) ⌝ }
     ensures { λ r. ⌜ r ≡ spec.shortLength (now (bytes .entry)) at end ⌝ }
@@ -33,7 +33,7 @@ fn short_length(bytes: &[u8], at: usize, end: usize) -> Length
     Length::Found(n, at + 1)
 }
 
-// A length in the form 82, whose two bytes stand at a place.
+// Returns the length in the form 82 whose two bytes stand at the place `at`, in bytes that end at `end`.
 fn long_length(bytes: &[u8], at: usize, end: usize) -> Length
     requires { ⌜ (at ≤ end) × (end ≤ length (now bytes)) ⌝ }
     ensures { λ r. ⌜ r ≡ spec.longLength (now (bytes .entry)) at end ⌝ }
@@ -48,7 +48,7 @@ fn long_length(bytes: &[u8], at: usize, end: usize) -> Length
     Length::Found(n, at + 2)
 }
 
-// The length that stands at a place of bytes that end at `end`.
+// Returns the length that stands at the place `at`, in bytes that end at `end`.
 pub fn length_at(bytes: &[u8], at: usize, end: usize) -> Length
     requires { ⌜ (at ≤ end) × (end ≤ length (now bytes)) ⌝ }
     ensures { λ r. ⌜ (r ≡ spec.lengthAt (now (bytes .entry)) at end) × spec.LengthFits at end r ⌝ }
@@ -69,7 +69,7 @@ pub fn length_at(bytes: &[u8], at: usize, end: usize) -> Length
     Length::Bad(WRONG_LENGTH)
 }
 
-// The code that a length which was not found leaves.
+// Returns the code of the Bad format TLV for a length that was not found, and 0 for one that was.
 pub fn code_of(l: Length) -> usize
     ensures { λ n. ⌜ n ≡ spec.codeOf l ⌝ }
 {
@@ -79,7 +79,7 @@ pub fn code_of(l: Length) -> usize
     }
 }
 
-// How many bytes the shortest form of a length takes.
+// Returns how many bytes the shortest form of a length takes.
 pub fn length_size(n: usize) -> usize
     ensures { λ r. ⌜ (r ≡ length (spec.lengthBytes n)) × (r ≤ 3) ⌝ }
 {
@@ -92,7 +92,7 @@ pub fn length_size(n: usize) -> usize
     3
 }
 
-// A length is written at a place, in its shortest form.
+// Writes the length n at the place `at`, in its shortest form, and returns the place after it.
 pub fn put_length(out: &mut [u8], at: usize, n: usize) -> usize
     requires { ⌜ (at + 3 ≤ length (now out)) × (n < 65536) ⌝ }
     ensures { λ r. ⌜ (now (out .exit) ≡ overwrite (now (out .entry)) at (spec.lengthBytes n)) × (r ≡ at + length (spec.lengthBytes n)) ⌝ }

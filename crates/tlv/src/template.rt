@@ -28,7 +28,7 @@ pub enum Item {
 // A C-APDU has at least four bytes.
 const LEAST_CAPDU: usize = 4;
 
-// AA: a length that runs exactly to the script's end.
+// Returns the template of a script with the tag AA: its length runs exactly to the script's end, or it is missing.
 fn definite(script: &[u8]) -> Template
     requires { ⌜ 1 ≤ length (now script) ⌝ }
     ensures { λ t. ⌜ t ≡ spec.definite (lengthAt (now (script .entry)) 1 (length (now (script .entry)))) (length (now (script .entry))) ⌝ }
@@ -42,7 +42,7 @@ fn definite(script: &[u8]) -> Template
     Template::Missing
 }
 
-// AE: 80, and 00 00 as the last two bytes.
+// Returns the template of a script with the tag AE: 80 comes next and 00 00 are the last two bytes, or it is missing.
 fn indefinite(script: &[u8]) -> Template
     ensures { λ t. ⌜ t ≡ spec.indefinite (now (script .entry)) (length (now (script .entry))) ⌝ }
 {
@@ -56,7 +56,7 @@ fn indefinite(script: &[u8]) -> Template
     Template::Missing
 }
 
-// The template of a script.
+// Returns the template of a script.
 pub fn template_of(script: &[u8]) -> Template
     ensures { λ t. ⌜ (t ≡ spec.templateOf (now (script .entry))) × spec.TemplateFits (length (now (script .entry))) t ⌝ }
 {
@@ -72,7 +72,7 @@ pub fn template_of(script: &[u8]) -> Template
     Template::Missing
 }
 
-// What comes of the length that stands at a place, in a value that ends at `end`.
+// Returns what the length at the place `at` gives, in a value that ends at `end`: a C-APDU, or a bad format.
 fn value_at(script: &[u8], at: usize, end: usize) -> Item
     requires { ⌜ (at ≤ end) × (end ≤ length (now script)) ⌝ }
     ensures { λ r. ⌜ r ≡ spec.valueAt (lengthAt (now (script .entry)) at end) end ⌝ }
@@ -87,7 +87,7 @@ fn value_at(script: &[u8], at: usize, end: usize) -> Item
     Item::Bad(WRONG_LENGTH)
 }
 
-// What stands at a place of a value that ends at `end`.
+// Returns what stands at the place `at` of a value that ends at `end`.
 pub fn item_at(script: &[u8], at: usize, end: usize) -> Item
     requires { ⌜ (at ≤ end) × (end ≤ length (now script)) ⌝ }
     ensures { λ r. ⌜ (r ≡ spec.itemAt (now (script .entry)) at end) × spec.ItemFits at end r ⌝ }
@@ -101,7 +101,7 @@ pub fn item_at(script: &[u8], at: usize, end: usize) -> Item
     value_at(script, at + 1, end)
 }
 
-// A C-APDU, as a part of the script.
+// Returns the C-APDU of `size` bytes that begins at `from`, as a part of the script.
 pub fn capdu<'s>(script: &'s [u8], from: usize, size: usize) -> &'s [u8]
     requires { ⌜ from + size ≤ length (now script) ⌝ }
     ensures { λ c. ⌜ now c ≡ part (now (script .entry)) from size ⌝ }

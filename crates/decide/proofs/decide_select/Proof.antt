@@ -1,4 +1,9 @@
--- `decide::decide_select` meets its contract: the first check that fails, or what is found. Assumes nothing.
+-- `decide::decide_select` meets its contract: the first check that fails, or what is found.
+-- The walk has three returns: the data have a wrong length (`select-wrong`), nothing is found (`select-lost`), or an entry is
+-- (`select-found`). The contract speaks of every situation with this format, command, data, session and finding, so each return
+-- also turns the code's values into those of the situation. The points of the walk are the length that fits (`start`, `fitting`)
+-- and the entry that is found (`origin`, `there`); that it is an entry of the table with an FCP is what the contract asks for.
+-- Assumes nothing.
 use mathlib.Core.Path.{_≡_, sym, ap, _∙_}
 use mathlib.Core.Bool.{true}
 use Prim.Native.Nat.{ℕ}

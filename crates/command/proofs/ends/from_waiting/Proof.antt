@@ -1,4 +1,4 @@
--- `command::ends::from_waiting` meets its contract: so many bytes are there. Assumes nothing.
+-- `command::ends::from_waiting` meets its contract: there are n waiting bytes. Assumes nothing.
 use borrow.Author.Needs.{needs}
 use mathlib.Core.Path.{sym}
 use lib.Seq.{length-take-le}

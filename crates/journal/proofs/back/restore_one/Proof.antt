@@ -1,4 +1,9 @@
--- `journal::back::restore_one` meets its contract: the lent part of the journal is the entry's old bytes, and its kind names the memory that they came from. Assumes nothing.
+-- `journal::back::restore_one` meets its contract: the lent part of the journal is the entry's old bytes, and its kind names the
+-- memory that they came from.
+-- The walk reads the tail (`at-tail-at`), tests its kind (`at-if1`) and copies. An entry that can be read is no longer than the
+-- bytes that it is the end of (`no-longer`), so its old bytes lie in the journal where the code takes them. Both ways go by the
+-- same laws of `GivenBack`: the test tells the memory (`from-table`, `from-files`), the old bytes fit into it (`fits-back`), and
+-- the copy is what giving the entry back does (`given-back`). Assumes nothing.
 use mathlib.Core.Path.{refl}
 use Prim.Native.Nat.{_≤_}
 use native.Mathlib.Omega.{arith}

@@ -1,4 +1,9 @@
--- `journal::sound::entries_sound` meets its contract. The loop's invariant: what is left of the test, from here back, is the whole of it. Assumes nothing.
+-- `journal::sound::entries_sound` meets its contract. The loop's invariant: what is left of the test, from here back, is the whole
+-- of it.
+-- With u bytes left, `marks` marks were counted, and u and `marks` are together no more than `used`, as each entry takes at least 8
+-- bytes; so the count stays small. Each way out of a step is one law of `Tested`: no entry can be read (`sound-stuck`), the entry
+-- is not sound (`sound-fails`), or the loop goes on with the bytes before it, which are fewer (`sound-goes-on`); with no bytes left
+-- the count and the oldest entry decide (`sound-ends`). Assumes nothing.
 use mathlib.Core.Path.{_≡_, refl}
 use mathlib.Core.Bool.{true}
 use Prim.Native.Nat.{_+_, _≤_}

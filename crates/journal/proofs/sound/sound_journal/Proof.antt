@@ -1,4 +1,9 @@
--- `journal::sound::sound_journal` meets its contract, test by test. Assumes nothing.
+-- `journal::sound::sound_journal` meets its contract, test by test.
+-- The definition compares the head with the bytes that it should be, the code asks field by field; for a journal of the right
+-- length both are the same tests joined by and (`journal-test`). So an early return shows the one test that is false, and at the
+-- last return the tests before are known to hold and `entries_sound` gives the rest. The points of the walk are the reading of the
+-- head and what each test leaves (`at-else2`, `at-else3`, `Else4`); `used-inside` is the bound that the later calls ask for.
+-- Assumes nothing.
 use mathlib.Core.Path.{_≡_, _∙_}
 use mathlib.Core.Bool.{and-false}
 use mathlib.Core.List.{List}

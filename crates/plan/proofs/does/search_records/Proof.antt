@@ -1,4 +1,9 @@
--- `plan::does::search_records` meets its contract: what is found is made, and the first becomes current. Assumes nothing.
+-- `plan::does::search_records` meets its contract: what is found is made, and the first becomes current.
+-- `search` puts the numbers that it finds at the start of the made bytes and returns how many there are. None: the plan ends with
+-- 6282 and no data (`searched-none`). Some: the first of them, read back from the made bytes, becomes the record number
+-- (`searched-some`). The code goes by the row and the file memory, the definition by what it sees of the file; `as-named` says that
+-- they find the same. The points of the walk are the calls of `record_of` and `search`, the test for none, and the read of the
+-- first number. Assumes nothing.
 use mathlib.Core.Path.{_≡_, sym, ap, _∙_}
 use mathlib.Core.List.{List, []}
 use Prim.Native.Nat.{ℕ, _≤_}
