@@ -4,6 +4,6 @@ set -euo pipefail
 cd "$(dirname "${BASH_SOURCE[0]}")"
 out=../target/examples
 mkdir -p "$out"
-../second/build.sh "$out/fleet" fleet.c
+../tools/build.sh "$out/fleet" fleet.c
 "$out/fleet" | tee "$out/fleet.stdout"
 diff fleet.expected "$out/fleet.stdout"

@@ -1,5 +1,5 @@
 /* Scripts for a card, mostly right, in both formats. */
-#include "compare_scripts.h"
+#include "scripts.h"
 
 #include <string.h>
 

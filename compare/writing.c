@@ -1,5 +1,5 @@
 /* How commands, lengths and templates are written out. */
-#include "compare_scripts.h"
+#include "scripts.h"
 
 #include <string.h>
 

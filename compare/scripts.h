@@ -25,12 +25,12 @@ struct maker {
     struct script value;
 };
 
-/* ---- compare_commands.c ---- */
+/* ---- commands.c ---- */
 void draw_command(struct command *command, uint8_t ins, const struct card *card, size_t number);
 unsigned needed_form(const struct command *command);
 void flaw_command(struct command *command, enum flaw flaw, const uint8_t *entry);
 
-/* ---- compare_writing.c ---- */
+/* ---- writing.c ---- */
 void add(struct maker *maker, const uint8_t *bytes, size_t length);
 size_t put_length(uint8_t *at, size_t length);
 void add_command(struct maker *maker, const struct command *command, enum flaw flaw);

@@ -144,7 +144,7 @@ struct difference {
 
 #define NO_PLACE SIZE_MAX
 
-/* ---- compare_random.c ---- */
+/* ---- random.c ---- */
 void start_random(uint64_t seed);
 uint64_t random_bits(void);
 uint32_t below(uint32_t limit);
@@ -152,20 +152,20 @@ bool one_in(uint32_t times);
 size_t between(size_t least, size_t most);
 uint8_t telling_byte(void);
 
-/* ---- compare_cards.c, compare_journals.c, compare_damage.c ---- */
+/* ---- cards.c, journals.c, damage.c ---- */
 void make_card(struct card *card, size_t entries);
 size_t some_entry(const struct card *card, uint8_t kind_from);
 void make_journal(struct card *card, bool spoiled);
 void damage(struct card *card);
 
-/* ---- compare_scripts.c, compare_writing.c ---- */
+/* ---- scripts.c, writing.c ---- */
 enum style { COMPACT, AA, AE, STYLES };
 
 void make_script(struct call *call, const struct card *card);
 enum style unwrap(const struct call *call, struct script *value);
 void wrap(struct script *script, enum style style, const struct script *value);
 
-/* ---- compare_coverage.c, compare_answers.c ---- */
+/* ---- coverage.c, answers.c ---- */
 bool note_word(enum style style, uint8_t ins, unsigned word);
 bool note_bad_format(enum style style, unsigned code);
 void note_count(enum style style, uint32_t count);
@@ -174,7 +174,7 @@ bool note_number(enum call_kind kind, unsigned number);
 bool note_answer(const struct call *call, const struct answer *answer);
 bool print_coverage(void);
 
-/* ---- compare_histories.c, compare_play.c ---- */
+/* ---- histories.c, play.c ---- */
 bool compare_history(struct history *history, struct difference *difference);
 
 /* Makes the next call of a history on the card as it is then. */
@@ -184,7 +184,7 @@ bool play(struct history *history, call_maker *next, struct difference *differen
 const struct answer *library_answer(size_t call);
 const struct answer *second_answer(size_t call);
 
-/* ---- compare_shorten.c, compare_print.c ---- */
+/* ---- shorten.c, print.c ---- */
 void shorten(struct history *history, struct difference *difference);
 void print_history(const struct history *history, const struct difference *difference);
 

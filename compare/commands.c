@@ -1,5 +1,5 @@
 /* Single commands: right ones for the current file, and flawed ones. */
-#include "compare_scripts.h"
+#include "scripts.h"
 
 #include <string.h>
 
