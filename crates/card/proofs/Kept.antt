@@ -44,16 +44,16 @@ withBytes r newest state =
 
 -- tables whose rows are the same but for the two bytes
 pub record Rows (t u : List ℕ) : Type 0 where
-  pub count : entries u ≡ entries t
+  pub sameEntries : entries u ≡ entries t
   pub alike : (d : ℕ) → rowOf u d ≡ withBytes (rowOf t d) (rowOf u d .newest) (rowOf u d .state)
 
 pub rows-same : (t : List ℕ) → Rows t t
-rows-same t = record { count = refl; alike = λ d. refl }
+rows-same t = record { sameEntries = refl; alike = λ d. refl }
 
 pub rows-both : (t u v : List ℕ) → Rows t u → Rows u v → Rows t v
 rows-both t u v a b =
     record {
-      count = b .count ∙ a .count;
+      sameEntries = b .sameEntries ∙ a .sameEntries;
       alike = λ d. b .alike d ∙ ap (λ (r : Row). withBytes r (rowOf v d .newest) (rowOf v d .state)) (a .alike d);
     }
 
@@ -164,7 +164,7 @@ module _ (t : List ℕ) (e k v : ℕ) (here : e < entries t) (low : 9 ≤ k) (hi
       ]
 
   pub changed-rows : Rows t (changed t e k v)
-  changed-rows = record { count = changed-entries t e k v here (omega arith); alike = row-alike }
+  changed-rows = record { sameEntries = changed-entries t e k v here (omega arith); alike = row-alike }
 
   module _ (files : List ℕ) (sound : soundTable t files ≡ true) (file : isFile (rowOf t e) ≡ true) where
     kept : newestSound (rowOf t e) (rowOf (changed t e k v) e .newest) ≡ true → stateSound (rowOf (changed t e k v) e .state) ≡ true → soundTable (changed t e k v) files ≡ true

@@ -52,7 +52,7 @@ unfoldable pub rowOf : List ℕ → ℕ → Row
 rowOf t e = row (entry t e)
 
 -- the fields are bytes and 16-bit numbers
-pub record Narrow (r : Row) : Type 0 where
+pub record RowFits (r : Row) : Type 0 where
   pub identifier : r .identifier < 65536
   pub parent : r .parent < 256
   pub kind : r .kind < 256

@@ -105,15 +105,15 @@ pairSound a b = namedApart a b && lieApart a b
 
 -- the entries one by one: `at` gives the row of each entry number
 unfoldable pub entriesSound : ℕ → ℕ → (ℕ → Row) → Bool
-entriesSound count files at = allBelow count (λ e. entrySound files e (at (at e .parent)) (at e))
+entriesSound n files at = allBelow n (λ e. entrySound files e (at (at e .parent)) (at e))
 
 -- the pairs: each entry and each before it
 unfoldable pub pairsSound : ℕ → (ℕ → Row) → Bool
-pairsSound count at = allBelow count (λ e. allBelow e (λ d. pairSound (at d) (at e)))
+pairsSound n at = allBelow n (λ e. allBelow e (λ d. pairSound (at d) (at e)))
 
--- a table of `count` entries, over a file memory of `files` bytes
+-- a table of `n` entries, over a file memory of `files` bytes
 unfoldable pub soundBy : ℕ → ℕ → (ℕ → Row) → Bool
-soundBy count files at = entriesSound count files at && pairsSound count at
+soundBy n files at = entriesSound n files at && pairsSound n at
 
 -- the lengths of table and file memory
 unfoldable pub lengthsSound : ℕ → ℕ → Bool

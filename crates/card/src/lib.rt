@@ -15,7 +15,7 @@ ghost use mathlib.Core.Path.{_≡_};
 ghost use Prim.Native.Nat.{_+_, _*_, _≤_};
 ghost use lib.ListN.{length};
 ghost use Rattle.octets.specs.Bytes.{InWord};
-ghost use Rattle.card.specs.Row.{entrySize, entries, row, rowOf, placeOfNewest, placeOfState, Narrow};
+ghost use Rattle.card.specs.Row.{entrySize, entries, row, rowOf, placeOfNewest, placeOfState, RowFits};
 
 // The number of bytes of an entry.
 pub const ENTRY_SIZE: usize = 16;
@@ -60,7 +60,7 @@ pub struct Row {
 }
 
 // Returns how many entries a table has.
-pub fn count(table: &[u8]) -> usize
+pub fn entries(table: &[u8]) -> usize
     ensures { λ r. ⌜ r ≡ entries (now (table .entry)) ⌝ }
 {
     table.len() / ENTRY_SIZE
@@ -69,7 +69,7 @@ pub fn count(table: &[u8]) -> usize
 // Returns what the 16 bytes of an entry hold.
 fn row_of(bytes: &[u8]) -> Row
     requires { ⌜ length (now bytes) ≡ 16 ⌝ }
-    ensures { λ r. ⌜ (r ≡ row (now (bytes .entry))) × Narrow r ⌝ }
+    ensures { λ r. ⌜ (r ≡ row (now (bytes .entry))) × RowFits r ⌝ }
 {
     Row {
         identifier: octets::num_at(bytes, 0),
@@ -90,7 +90,7 @@ fn row_of(bytes: &[u8]) -> Row
 // Returns what entry e of a table holds.
 pub fn row_at(table: &[u8], e: usize) -> Row
     requires { ⌜ entrySize * e + entrySize ≤ length (now table) ⌝ }
-    ensures { λ r. ⌜ (r ≡ rowOf (now (table .entry)) e) × Narrow r ⌝ }
+    ensures { λ r. ⌜ (r ≡ rowOf (now (table .entry)) e) × RowFits r ⌝ }
 {
     let at = ENTRY_SIZE * e;
     row_of(&table[at..at + ENTRY_SIZE])

@@ -2,7 +2,7 @@
 use crate::Row;
 ghost use mathlib.Core.Path.{_≡_};
 ghost use Prim.Native.Nat.{_+_, _*_, _≤_, _<_};
-ghost use Rattle.card.specs.Row.{Narrow};
+ghost use Rattle.card.specs.Row.{RowFits};
 ghost use Rattle.card.specs.Sound.{recordCount};
 ghost use Rattle.card.specs.Records.{cyclicPlace, recordOffset, oldestPlace};
 
@@ -25,7 +25,7 @@ pub fn record_count(f: Row) -> usize
 
 // Returns where record r begins in its file.
 pub fn record_offset(f: Row, r: usize) -> usize
-    requires { ⌜ (1 ≤ f .«record_length») × (1 ≤ r) × (r ≤ recordCount f) × Narrow f ⌝ }
+    requires { ⌜ (1 ≤ f .«record_length») × (1 ≤ r) × (r ≤ recordCount f) × RowFits f ⌝ }
     ensures { λ p. ⌜ (p ≡ recordOffset f r) × (p + f .«record_length» ≤ f .size) ⌝ }
 {
     let record = f.record_length;
@@ -35,7 +35,7 @@ pub fn record_offset(f: Row, r: usize) -> usize
 
 // Returns the place of the oldest record of a file.
 pub fn oldest_place(f: Row) -> usize
-    requires { ⌜ (1 ≤ f .«record_length») × (1 ≤ recordCount f) × Narrow f ⌝ }
+    requires { ⌜ (1 ≤ f .«record_length») × (1 ≤ recordCount f) × RowFits f ⌝ }
     ensures { λ p. ⌜ (p ≡ oldestPlace f) × (p < recordCount f) ⌝ }
 {
     let m = record_count(f);

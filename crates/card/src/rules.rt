@@ -6,7 +6,7 @@ use crate::DEACTIVATED;
 use crate::Row;
 use crate::TRANSPARENT;
 ghost use mathlib.Core.Path.{_≡_};
-ghost use Rattle.card.specs.Row.{Narrow, isDirectory, isFile, canBeChild};
+ghost use Rattle.card.specs.Row.{RowFits, isDirectory, isFile, canBeChild};
 ghost use Rattle.card.specs.Sound.{rootSound, placeSound, nameSound, directorySound, newestSound, stateSound, recordsSound, fileSound, zerosSound, ownSound, namedApart, lieApart, pairSound};
 
 // "Record files have record length 1 to 255 and 1 to 254 whole records"
@@ -101,13 +101,14 @@ fn records_sound(r: Row) -> bool
     if record == 0 {
         return false;
     }
-    let count = r.size / record;
-    (record <= LONGEST_RECORD) & ((r.size % record == 0) & ((1 <= count) & (count <= MOST_RECORDS)))
+    let records = r.size / record;
+    (record <= LONGEST_RECORD)
+        & ((r.size % record == 0) & ((1 <= records) & (records <= MOST_RECORDS)))
 }
 
 // Returns whether what a file's entry holds is sound, over a file memory of `files` bytes.
 fn file_sound(files: usize, r: Row) -> bool
-    requires { ⌜ Narrow r ⌝ }
+    requires { ⌜ RowFits r ⌝ }
     ensures { λ b. ⌜ b ≡ fileSound files r ⌝ }
 {
     (1 <= r.size)
@@ -125,7 +126,7 @@ fn zeros_sound(r: Row) -> bool
 
 // Returns whether an entry is sound by itself, over a file memory of `files` bytes.
 pub fn own_sound(files: usize, r: Row) -> bool
-    requires { ⌜ Narrow r ⌝ }
+    requires { ⌜ RowFits r ⌝ }
     ensures { λ b. ⌜ b ≡ ownSound files r ⌝ }
 {
     if is_directory(r) {
@@ -146,7 +147,7 @@ fn named_apart(a: Row, b: Row) -> bool
 
 // Returns whether two entries do not overlap in file memory.
 fn lie_apart(a: Row, b: Row) -> bool
-    requires { ⌜ Narrow a × Narrow b ⌝ }
+    requires { ⌜ RowFits a × RowFits b ⌝ }
     ensures { λ t. ⌜ t ≡ lieApart a b ⌝ }
 {
     if a.start + a.size <= b.start {
@@ -157,7 +158,7 @@ fn lie_apart(a: Row, b: Row) -> bool
 
 // Returns whether two entries are sound beside each other.
 pub fn pair_sound(a: Row, b: Row) -> bool
-    requires { ⌜ Narrow a × Narrow b ⌝ }
+    requires { ⌜ RowFits a × RowFits b ⌝ }
     ensures { λ t. ⌜ t ≡ pairSound a b ⌝ }
 {
     if !named_apart(a, b) {

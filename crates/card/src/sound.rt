@@ -1,7 +1,7 @@
 // The soundness of table and file memory, for slices of any length and content.
 use crate::ENTRY_SIZE;
 use crate::Row;
-use crate::count;
+use crate::entries;
 use crate::row_at;
 use crate::rules::name_sound;
 use crate::rules::own_sound;
@@ -11,7 +11,7 @@ use crate::rules::root_sound;
 ghost use mathlib.Core.Path.{_≡_};
 ghost use Prim.Native.Nat.{_≤_, _<_};
 ghost use Rattle.octets.specs.Choice.{allBelow};
-ghost use Rattle.card.specs.Row.{entries, rowOf, Narrow};
+ghost use Rattle.card.specs.Row.{entries, rowOf, RowFits};
 ghost use Rattle.card.specs.Sound.{entrySound, pairSound, entriesSound, pairsSound, soundTable};
 
 // "The table has 1 to 64 entries"; "File memory has 1 to 32,768 bytes."
@@ -40,7 +40,7 @@ fn entry_sound(table: &[u8], files: usize, e: usize) -> bool
 fn entries_sound(table: &[u8], files: usize) -> bool
     ensures { λ b. ⌜ b ≡ entriesSound (entries (now (table .entry))) files (rowOf (now (table .entry))) ⌝ }
 {
-    let n = count(table);
+    let n = entries(table);
     let mut e: usize = 0;
     while e < n {
         if !entry_sound(table, files, e) {
@@ -53,7 +53,7 @@ fn entries_sound(table: &[u8], files: usize) -> bool
 
 // Returns whether the row r of entry e is sound beside each entry before it.
 fn earlier_sound(table: &[u8], e: usize, r: Row) -> bool
-    requires { ⌜ (e ≤ entries (now table)) × Narrow r ⌝ }
+    requires { ⌜ (e ≤ entries (now table)) × RowFits r ⌝ }
     ensures { λ b. ⌜ b ≡ allBelow e (λ d. pairSound (rowOf (now (table .entry)) d) r) ⌝ }
 {
     let mut d: usize = 0;
@@ -71,7 +71,7 @@ fn earlier_sound(table: &[u8], e: usize, r: Row) -> bool
 fn pairs_sound(table: &[u8]) -> bool
     ensures { λ b. ⌜ b ≡ pairsSound (entries (now (table .entry))) (rowOf (now (table .entry))) ⌝ }
 {
-    let n = count(table);
+    let n = entries(table);
     let mut e: usize = 0;
     while e < n {
         let r = row_at(table, e);
@@ -90,7 +90,7 @@ pub fn sound_table(table: &[u8], files: &[u8]) -> bool
     if table.len() % ENTRY_SIZE != 0 {
         return false;
     }
-    let n = count(table);
+    let n = entries(table);
     if n < 1 {
         return false;
     }

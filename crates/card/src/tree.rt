@@ -2,7 +2,7 @@
 use crate::ADF;
 use crate::DF;
 use crate::MF;
-use crate::count;
+use crate::entries;
 use crate::row_at;
 use crate::rules::can_be_child;
 ghost use mathlib.Core.Path.{_≡_};
@@ -22,7 +22,7 @@ pub enum Found {
 pub fn child(table: &[u8], directory: usize, only_df: bool, identifier: usize) -> Found
     ensures { λ f. ⌜ f ≡ childWith (now (table .entry)) directory (λ r. (not «only_df» || isDF r) && eqb (r .identifier) identifier) ⌝ }
 {
-    let n = count(table);
+    let n = entries(table);
     let mut e: usize = 0;
     while e < n {
         let r = row_at(table, e);

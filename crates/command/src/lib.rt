@@ -30,7 +30,7 @@ pub struct Command {
 pub struct Reading {
     pub command: Command,
     pub from: usize,
-    pub count: usize,
+    pub size: usize,
 }
 
 // How a command ends: well with a word and no data; well with a word and a part of the file memory (its place and length); well

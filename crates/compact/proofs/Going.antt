@@ -76,7 +76,7 @@ module _ {script : List ℕ} {application domain : ℕ} {card₀ : Card} where
       pub stops : goesOn (wordOf (next .outcome)) ≡ false → stateOf next after ≡ run script application domain card₀
       stops off = e ∙ sym (stop script domain at (stateOf step card) more (g .fuel) (g .enough) (same-end off)) ∙ g .whole
 
-      pub goes : AllBytes script → ReadingFits script at reading → goesOn (wordOf (next .outcome)) ≡ true → Going script application domain card₀ after next (reading .from + reading .count)
+      pub goes : AllBytes script → ReadingFits script at reading → goesOn (wordOf (next .outcome)) ≡ true → Going script application domain card₀ after next (reading .from + reading .size)
       unfolding stepRead stepped placeAfter
       goes small fits going =
           let there = rw is at fits in

@@ -26,23 +26,23 @@ module _ (script : List ℕ) (at : ℕ) {r : Reading} where
       })
 
 -- a header that is there, with the data that its instruction and its P3 ask for
-module _ (script : List ℕ) (at : ℕ) {i p3 count : ℕ} (ins : i ≡ byte script (at + 1)) (third : p3 ≡ byte script (at + 4)) (asked : count ≡ dataBehind i p3) (headed : at + 5 ≤ length script) where
-  behind : count ≡ dataBehind (byte script (at + 1)) (byte script (at + 4))
+module _ (script : List ℕ) (at : ℕ) {i p3 size : ℕ} (ins : i ≡ byte script (at + 1)) (third : p3 ≡ byte script (at + 4)) (asked : size ≡ dataBehind i p3) (headed : at + 5 ≤ length script) where
+  behind : size ≡ dataBehind (byte script (at + 1)) (byte script (at + 4))
   behind = asked ∙ (λ k. dataBehind (ins k) (third k))
 
-  pub no-data : {r : Reading} → length script < at + 5 + count → r ≡ broken script → r ≡ readAt script at
+  pub no-data : {r : Reading} → length script < at + 5 + size → r ≡ broken script → r ≡ readAt script at
   unfolding readAt headedAt
   no-data h e = le-yes (at + 5) (length script) (broken script) headed (le-no _ _ _ (rw behind at h) e)
 
-  pub whole : {r : Reading} → at + 5 + count ≤ length script → r ≡ wholeAt script at i count → r ≡ readAt script at
+  pub whole : {r : Reading} → at + 5 + size ≤ length script → r ≡ wholeAt script at i size → r ≡ readAt script at
   unfolding readAt headedAt
   whole h e =
       le-yes (at + 5) (length script) (broken script) headed
       (le-yes _ _ _ (rw behind at h) (e ∙ (λ k. wholeAt script at (ins k) (behind k))))
 
-pub whole-fits : (script : List ℕ) (at i count : ℕ) {r : Reading} → r ≡ wholeAt script at i count → at + 5 + count ≤ length script → count < 256 → AllBytes script → ReadingFits script at r
+pub whole-fits : (script : List ℕ) (at i size : ℕ) {r : Reading} → r ≡ wholeAt script at i size → at + 5 + size ≤ length script → size < 256 → AllBytes script → ReadingFits script at r
 unfolding wholeAt placeAfter
-whole-fits script at i count e h few bytes =
+whole-fits script at i size e h few bytes =
     rw e
     (record {
       inside = h;
@@ -52,7 +52,7 @@ whole-fits script at i count e h few bytes =
 
 -- what holds of a command with too few bytes, and of a whole one where it has them, holds of the one at a place
 pub on-reading : (P : Reading → Type 0) (script : List ℕ) (at : ℕ) → P (broken script)
-    → (let count = dataBehind (byte script (at + 1)) (byte script (at + 4)) in at + 5 + count ≤ length script → P (wholeAt script at (byte script (at + 1)) count))
+    → (let size = dataBehind (byte script (at + 1)) (byte script (at + 4)) in at + 5 + size ≤ length script → P (wholeAt script at (byte script (at + 1)) size))
     → P (readAt script at)
 unfolding readAt headedAt
 on-reading P script at few all = on-pick P _ _ _ (λ y. on-pick P _ _ _ (λ z. all (leb-true _ _ z)) (λ n. few)) (λ n. few)

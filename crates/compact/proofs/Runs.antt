@@ -33,13 +33,13 @@ abbrev pub Kept : Card → State → Type 0
 Kept before st = Holds before (st .step .session) (st .card)
 
 module _ (script : List ℕ) (small : AllBytes script) where
-  few : (at : ℕ) → readAt script at .count ≤ 255
+  few : (at : ℕ) → readAt script at .size ≤ 255
   unfolding wholeAt broken dataBehind
   few at =
-      on-reading (λ (r : Reading). r .count ≤ 255) script at (omega arith)
+      on-reading (λ (r : Reading). r .size ≤ 255) script at (omega arith)
       (λ inside. on-pick (λ (n : ℕ). n ≤ 255) (carriesData (byte script (at + 1))) (byte script (at + 4)) 0 (λ y. omega (arith, small (at + 4))) (λ n. omega arith))
 
-  pub brief : (at : ℕ) → length (part script (readAt script at .from) (readAt script at .count)) ≤ 255
+  pub brief : (at : ℕ) → length (part script (readAt script at .from) (readAt script at .size)) ≤ 255
   brief at = rw length-take (omega (arith, few at))
 
   module _ (before : Card) (domain : ℕ) where

@@ -45,12 +45,12 @@ broken script =
             after = false;
           };
       from = length script;
-      count = 0;
+      size = 0;
     }
 
--- the command at the place `at` with the instruction `i`, whose header and `count` data bytes are there
+-- the command at the place `at` with the instruction `i`, whose header and `size` data bytes are there
 unfoldable pub wholeAt : List ℕ → ℕ → ℕ → ℕ → Reading
-wholeAt script at i count =
+wholeAt script at i size =
     record {
       command =
           record {
@@ -61,18 +61,18 @@ wholeAt script at i count =
             p2 = byte script (at + 3);
             p3 = byte script (at + 4);
             case = compactCase i (byte script (at + 3)) (byte script (at + 4));
-            after = ltb (at + headerSize + count) (length script);
+            after = ltb (at + headerSize + size) (length script);
           };
       from = at + headerSize;
-      count = count;
+      size = size;
     }
 
 -- the command whose header is there, with its data
 unfoldable pub headedAt : List ℕ → ℕ → Reading
 headedAt script at =
     let i : ℕ = byte script (at + 1) in
-    let count : ℕ = dataBehind i (byte script (at + 4)) in
-    pick (leb (at + headerSize + count) (length script)) (wholeAt script at i count) (broken script)
+    let size : ℕ = dataBehind i (byte script (at + 4)) in
+    pick (leb (at + headerSize + size) (length script)) (wholeAt script at i size) (broken script)
 
 -- the command that stands at the place `at` of a script
 unfoldable pub readAt : List ℕ → ℕ → Reading
@@ -80,13 +80,13 @@ readAt script at = pick (leb (at + headerSize) (length script)) (headedAt script
 
 -- the place after a command that was read
 unfoldable pub placeAfter : Reading → ℕ
-placeAfter r = r .from + r .count
+placeAfter r = r .from + r .size
 
 -- what a reading at a place of a script of bytes promises: its data lie in the script, the next place is further on, and its numbers are bytes
 pub record ReadingFits (script : List ℕ) (at : ℕ) (r : Reading) : Type 0 where
   pub inside : placeAfter r ≤ length script
   pub further : at < placeAfter r
-  pub bytes : OfBytes (r .command) (r .count)
+  pub bytes : OfBytes (r .command) (r .size)
 
 -- a script's state after a command with its data: from the session and on the card that the ones before have left
 abbrev pub stepWith : ℕ → Command → List ℕ → State → State
@@ -96,7 +96,7 @@ stepWith domain c «data» st =
 
 -- a script's state after a command that was read
 unfoldable pub stepRead : List ℕ → ℕ → Reading → State → State
-stepRead script domain r st = stepWith domain (r .command) (part script (r .from) (r .count)) st
+stepRead script domain r st = stepWith domain (r .command) (part script (r .from) (r .size)) st
 
 -- a script's state after the command that stands at a place
 abbrev pub stepAt : List ℕ → ℕ → ℕ → State → State

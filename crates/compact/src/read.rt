@@ -49,14 +49,14 @@ fn broken(script: &[u8]) -> Reading
     Reading {
         command,
         from: script.len(),
-        count: 0,
+        size: 0,
     }
 }
 
-// Returns the command at the place `at` whose header and `count` data bytes are there.
-fn whole_at(script: &[u8], at: usize, i: usize, count: usize) -> Reading
-    requires { ⌜ (at + 5 + count ≤ length (now script)) ⌝ }
-    ensures { λ r. ⌜ r ≡ spec.wholeAt (now (script .entry)) at i count ⌝ }
+// Returns the command at the place `at` whose header and `size` data bytes are there.
+fn whole_at(script: &[u8], at: usize, i: usize, size: usize) -> Reading
+    requires { ⌜ (at + 5 + size ≤ length (now script)) ⌝ }
+    ensures { λ r. ⌜ r ≡ spec.wholeAt (now (script .entry)) at i size ⌝ }
 {
     let p2 = octets::wide(script[at + 3]);
     let p3 = octets::wide(script[at + 4]);
@@ -68,12 +68,12 @@ fn whole_at(script: &[u8], at: usize, i: usize, count: usize) -> Reading
         p2,
         p3,
         case: compact_case(i, p2, p3),
-        after: at + HEADER_SIZE + count < script.len(),
+        after: at + HEADER_SIZE + size < script.len(),
     };
     Reading {
         command,
         from: at + HEADER_SIZE,
-        count,
+        size,
     }
 }
 
@@ -86,9 +86,9 @@ pub fn read_at(script: &[u8], at: usize) -> Reading
         return broken(script);
     }
     let i = octets::wide(script[at + 1]);
-    let count = data_behind(i, octets::wide(script[at + 4]));
-    if script.len() - at < HEADER_SIZE + count {
+    let size = data_behind(i, octets::wide(script[at + 4]));
+    if script.len() - at < HEADER_SIZE + size {
         return broken(script);
     }
-    whole_at(script, at, i, count)
+    whole_at(script, at, i, size)
 }

@@ -27,11 +27,11 @@ fn step_read(
     files: &mut [u8],
     journal: &mut [u8],
 ) -> Step
-    requires { ⌜ (spec.placeAfter reading ≤ length (now script)) × RunCommandAsks (lent (now table) (now files) (now journal)) (before .session .standing) (reading .command) (reading .count) 0 (now made) × (before .count < 65535) ⌝ }
+    requires { ⌜ (spec.placeAfter reading ≤ length (now script)) × RunCommandAsks (lent (now table) (now files) (now journal)) (before .session .standing) (reading .command) (reading .size) 0 (now made) × (before .count < 65535) ⌝ }
     ensures { λ r. ⌜ stateOf r (lent (now (table .exit)) (now (files .exit)) (now (journal .exit))) ≡ spec.stepRead (now (script .entry)) domain reading (stateOf before (lent (now (table .entry)) (now (files .entry)) (now (journal .entry)))) ⌝ }
 {
     let from = reading.from;
-    let end = from + reading.count;
+    let end = from + reading.size;
     let c = reading.command;
     step::lent::run_step(
         Format::Compact,
@@ -83,7 +83,7 @@ pub fn run(
         if !goes_on(word_of(outcome)) {
             return step;
         }
-        at = reading.from + reading.count;
+        at = reading.from + reading.size;
     }
     step
 }

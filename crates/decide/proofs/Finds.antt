@@ -74,7 +74,7 @@ module _ (c : Command) (lc : ℕ) (s : Standing) (r : Row) {i : ℕ} (e : c .ins
   unfolding fails offsetOf
   finds-offset f w so = rw (so .0 .command, e, so .1 .row, ← f)
 
-  pub finds-record : {b : Bool} → b ≡ noRecord c (s .number) r → Finds (Bound c lc s r) NoRecord b
+  pub finds-record : {b : Bool} → b ≡ noRecord c (s .«record_number») r → Finds (Bound c lc s r) NoRecord b
   unfolding fails
   finds-record f w so = rw (so .0 .command, so .1 .session, so .1 .row, ← f)
 

@@ -18,7 +18,7 @@ use borrow.Author.Tests.{eqb-false, not-false}
 use Rattle.octets.specs.Choice.{pick}
 use Rattle.octets.proofs.Picks.{on-pick}
 use Rattle.card.specs.declared.Row.{Row}
-use Rattle.card.specs.Row.{Card, lent, Narrow, entrySize, entries, rowOf, isCyclic, hasRecords, activated, deactivated, placeOfNewest, placeOfState}
+use Rattle.card.specs.Row.{Card, lent, RowFits, entrySize, entries, rowOf, isCyclic, hasRecords, activated, deactivated, placeOfNewest, placeOfState}
 use Rattle.card.specs.Sound.{recordCount, ownSound}
 use Rattle.card.proofs.Promises.{some-entries, few-entries, cyclic-records, file-inside, record-some, records-some, records-few, entry-own}
 use Rattle.journal.specs.Entries.{usedBytes, room, HasRoom}
@@ -53,7 +53,7 @@ pub record Known (files : ℕ) (c : Command) (lc : ℕ) (s : Standing) (r : Row)
   pub recorded : hasRecords r ≡ true → Recorded files r
   pub kind : kindFits (c .instruction) r ≡ true
   pub offset : offsetOutside (c .instruction) (offsetOf c) r ≡ false
-  pub «record» : noRecord c (s .number) r ≡ false
+  pub «record» : noRecord c (s .«record_number») r ≡ false
   pub length : lengthFits (c .instruction) (offsetOf c) (c .p3) lc r ≡ true
 
 -- what that gives to the instructions
@@ -67,8 +67,8 @@ module _ {files lc : ℕ} {c : Command} {s : Standing} {r : Row} (p : Known file
   pub of-records : isRecord (c .instruction) ≡ true → Recorded files r
   of-records h = p .recorded (record-kind (c .instruction) r h (p .kind))
 
-  pub has-named : isRecord (c .instruction) ≡ true → renews (c .instruction) r ≡ false → (1 ≤ namedBy c (s .number) r) × (namedBy c (s .number) r ≤ recordCount r)
-  has-named h g = named-there c (s .number) r h g (p .«record»)
+  pub has-named : isRecord (c .instruction) ≡ true → renews (c .instruction) r ≡ false → (1 ≤ namedBy c (s .«record_number») r) × (namedBy c (s .«record_number») r ≤ recordCount r)
+  has-named h g = named-there c (s .«record_number») r h g (p .«record»)
 
   pub to-sum : c .instruction ≡ ins.increase → Recorded files r × (r .«record_length» ≤ 127) × (lc ≤ r .«record_length»)
   to-sum e =
@@ -81,7 +81,7 @@ module _ {files lc : ℕ} {c : Command} {s : Standing} {r : Row} (p : Known file
   update-fits e t h =
       let has = of-records (rw e) in
       let l = length-record (c .instruction) r (offsetOf c) (c .p3) lc (p .length) e in
-      let i = offset-inside r (has .counted) (namedBy c (s .number) r) in
+      let i = offset-inside r (has .counted) (namedBy c (s .«record_number») r) in
       on-pick (Fits t files lc) (isCyclic r) _ _ (λ y. (newest-fits t files (s .file) r has h, l)) (λ n. (p .inside, omega arith))
 
 -- what a card that is ready has
@@ -123,7 +123,7 @@ module _ {t files : List ℕ} {s : Standing} {c : Command} {lc : ℕ} (can : Fil
     pub to-check : {i : ℕ} → c .instruction ≡ i → FileCheckAsks i c lc r
     to-check e = (e, records-long, can .bytes)
 
-    passed : Narrow r → (w : Situation) → Bound c lc s r w → AllPass w boundChecks → Known (length files) c lc s r
+    passed : RowFits r → (w : Situation) → Bound c lc s r w → AllPass w boundChecks → Known (length files) c lc s r
     unfolding boundChecks fails
     passed narrow w so h =
         let of = so .0 in
@@ -163,7 +163,7 @@ activates = record { done = λ w. refl; plain = refl; byte = omega arith }
 
 -- what `target_row` says of the file's row, and `checked` of the checks up to the lengths, with lc data bytes
 abbrev pub Read : List ℕ → Standing → Row → Type 0
-Read t s r = (r ≡ rowOf t (s .file)) × Narrow r
+Read t s r = (r ≡ rowOf t (s .file)) × RowFits r
 
 abbrev pub Told : ℕ → Command → ℕ → Standing → Row → Checked → Type 0
 Told domain c lc s r came = FirstOf (formalChecks ++ boundChecks) (Whole c lc domain s r) came

@@ -47,9 +47,9 @@ module _ (format : Format) (domain : ℕ) (c : Command) («data» : List ℕ) (s
     unfolding fails situation fileAt
     has-records y = record-kind (c .instruction) r y (not-false _ (p .kind))
 
-    named : isRecord (c .instruction) ≡ true → renews (c .instruction) r ≡ false → (1 ≤ namedBy c (s .number) r) × (namedBy c (s .number) r ≤ recordCount r)
+    named : isRecord (c .instruction) ≡ true → renews (c .instruction) r ≡ false → (1 ≤ namedBy c (s .«record_number») r) × (namedBy c (s .«record_number») r ≤ recordCount r)
     unfolding fails situation fileAt
-    named y z = named-there c (s .number) r y z (p .«record»)
+    named y z = named-there c (s .«record_number») r y z (p .«record»)
 
     by-read : c .instruction ≡ ins.readBinary → Fit card c (readBinary format c s (fileAt card (s .file)))
     unfolding fails situation fileAt

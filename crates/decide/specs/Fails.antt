@@ -133,7 +133,7 @@ fails w WrongMode = wrongMode (w .command .instruction) (w .command .p2) (w .fil
 fails w Deactivated = isShut (w .command .instruction) (w .file .row)
 fails w Never = isNever (w .command .instruction) (w .file .row)
 fails w OffsetOutside = offsetOutside (w .command .instruction) (offsetOf (w .command)) (w .file .row)
-fails w NoRecord = noRecord (w .command) (w .session .number) (w .file .row)
+fails w NoRecord = noRecord (w .command) (w .session .«record_number») (w .file .row)
 fails w WrongLength =
     not (lengthFits (w .command .instruction) (offsetOf (w .command)) (w .command .p3) (length (w .«data»)) (w .file .row))
 fails w SumTooLong = sumTooLong (w .command .instruction) (w .file) (w .«data»)

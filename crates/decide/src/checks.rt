@@ -229,7 +229,7 @@ pub fn file_check(i: usize, c: Command, lc: usize, s: Standing, r: Row) -> Check
     if offset_outside(i, offset, r) {
         return Checked::Failed(Check::OffsetOutside);
     }
-    if no_record(i, c, s.number as usize, r) {
+    if no_record(i, c, s.record_number as usize, r) {
         return Checked::Failed(Check::NoRecord);
     }
     if !length_fits(i, offset, c.p3, lc, r) {

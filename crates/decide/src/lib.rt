@@ -50,7 +50,7 @@ fn get_response(c: Command, s: Standing) -> Decision
     ensures { λ d. ⌜ ((«data» bytes : List ℕ) → planOf d «data» bytes ≡ responded c s) × (d .change ≡ Change.Nothing) ⌝ }
 {
     let valid = s.valid as usize;
-    let kept = s.kept as usize;
+    let kept = s.word as usize;
     if valid == 0 {
         return failed(s, Check::NothingWaits);
     }

@@ -25,7 +25,7 @@ module _ (script : List ℕ) where
   -- a command takes a byte or more
   further : (at : ℕ) → at < length script → at < placeAfter (readAt script at)
   unfolding wholeAt broken placeAfter
-  further at h = on-reading (λ (r : Reading). at < r .from + r .count) script at (omega arith) (λ _. omega arith)
+  further at h = on-reading (λ (r : Reading). at < r .from + r .size) script at (omega arith) (λ _. omega arith)
 
   none-left : (n at : ℕ) → length script ≤ at → commandsFrom n script at ≡ []
   unfolding commandsFrom

@@ -47,7 +47,7 @@ module _ (c : Card) (sound : soundCard c ≡ true) where
   unfolding argumentsFit applicationFits
   arguments-back a =
       let r = taken-alike c sound .rows in
-      λ i. leb (a .format) 1 && ((eqb (a .application) 0 || (ltb (a .application) (r .count i) && isADF (r .alike (a .application) i))) && (eqb (a .domain) 0x00 || eqb (a .domain) 0xFF))
+      λ i. leb (a .format) 1 && ((eqb (a .application) 0 || (ltb (a .application) (r .sameEntries i) && isADF (r .alike (a .application) i))) && (eqb (a .domain) 0x00 || eqb (a .domain) 0xFF))
 
 -- what a number other than 5 stands for still holds where a mark fits wherever it fitted before
 module _ (s a f : Bool) (long least : ℕ) (m m′ t : Bool) (more : m ≡ true → m′ ≡ true) where

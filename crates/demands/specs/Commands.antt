@@ -36,7 +36,7 @@ pub record Read : Type 0 where
 
 -- a command that stands in some bytes
 unfoldable pub readIn : List ℕ → Reading → Read
-readIn bytes r = record { command = r .command; «data» = part bytes (r .from) (r .count) }
+readIn bytes r = record { command = r .command; «data» = part bytes (r .from) (r .size) }
 
 -- the commands of a script from a place on, from front to back, `n` of them at most: neither card nor session is looked at
 unfoldable pub commandsFrom : ℕ → List ℕ → ℕ → List Read

@@ -90,9 +90,9 @@ pub record Fresh (c : Card) (a : Arguments) : Type 0 where
         root = a .application;
         directory = a .application;
         file = session.none;
-        number = session.none;
+        «record_number» = session.none;
         valid = 0;
-        kept = 0;
+        word = 0;
       }
   pub waiting : started (a .application) (withMark c) .step .session .waiting ≡ zeros 255
   pub compact :

@@ -12,7 +12,7 @@ use Rattle.journal.specs.Sound.{soundCard}
 use Rattle.journal.specs.Changes.{takenBack, confirmed}
 use Rattle.engine.specs.declared.Answer.{Answer}
 use Rattle.engine.specs.Numbers.{firstGiven, notSound, takeBackRefusals, confirmRefusals}
-use Rattle.engine.specs.Calls.{Result, gives, numbered, Small, unlessRefused, takeBack, confirm}
+use Rattle.engine.specs.Calls.{Result, gives, numbered, AnswerFits, unlessRefused, takeBack, confirm}
 
 -- a call gives its number alone where one is given, and else what it does
 module _ (n : ℕ) (c : Card) (response : List ℕ) (r : Result) where
@@ -48,5 +48,5 @@ module _ (c : Card) where
 
 -- a number alone, with what it stands for, and that it is small
 pub answers-number : (n : ℕ) → n < 256 → {a : Answer} → a ≡ numbered n → (card : Card) (response : List ℕ) {r : Result} → gives (numbered n) card response ≡ r
-    → (gives a card response ≡ r) × Small a
-answers-number n h e card response is = (ap (λ (a : Answer). gives a card response) e ∙ is, subst Small (sym e) (h, omega arith, omega arith))
+    → (gives a card response ≡ r) × AnswerFits a
+answers-number n h e card response is = (ap (λ (a : Answer). gives a card response) e ∙ is, subst AnswerFits (sym e) (h, omega arith, omega arith))

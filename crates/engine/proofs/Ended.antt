@@ -37,7 +37,7 @@ use Rattle.expanded.specs.Expanded.{Progress}
 use Rattle.expanded.proofs.Written.{answer-few}
 use Rattle.step.specs.Limits.{longestScript}
 use Rattle.engine.specs.Numbers.{Arguments, leastResponse}
-use Rattle.engine.specs.Calls.{Result, gives, Small, accepted, runValue, runScript}
+use Rattle.engine.specs.Calls.{Result, gives, AnswerFits, accepted, runValue, runScript}
 use Rattle.engine.proofs.RunNumbers.{least-response}
 
 -- the card with the journal that has the mark
@@ -72,7 +72,7 @@ compact-waiting script small {application} domain {card} starts e =
 
 -- the answer is small
 pub compact-small : (step : Step) (files : List ℕ) → OutcomeFits (length files) (step .outcome) → step .count < 256 → length (step .session .waiting) ≡ mostWaiting
-    → (n : ℕ) → n ≡ length (compact.answer step files) → Small (record { number = 0; length = n; count = step .count })
+    → (n : ℕ) → n ≡ length (compact.answer step files) → AnswerFits (record { number = 0; length = n; count = step .count })
 compact-small step files fits few all n e =
     let l = answer-length step files fits all in
     let d = data-few (step .outcome) (length files) fits in
@@ -89,7 +89,7 @@ compact-gives a card step after response n e r l =
 
 -- an expanded script: its answer is small
 pub expanded-small : (definite : Bool) (count : ℕ) (rapdus : List ℕ) → length rapdus ≤ expanded.roomToGather → count ≤ longestScript
-    → (n : ℕ) → n ≡ length (expanded.answerBytes definite count rapdus) → Small (record { number = 0; length = n; count = count })
+    → (n : ℕ) → n ≡ length (expanded.answerBytes definite count rapdus) → AnswerFits (record { number = 0; length = n; count = count })
 expanded-small definite count rapdus few most n e = let a = answer-few definite count rapdus in (omega arith, omega arith, omega arith)
 
 -- and the result

@@ -48,7 +48,7 @@ fn is_application(table: &[u8], application: usize) -> bool
     requires { ⌜ ParentsSmaller (now table) ⌝ }
     ensures { λ b. ⌜ b ≡ (ltb application (entries (now (table .entry))) && isRoot (rowOf (now (table .entry)) application)) ⌝ }
 {
-    if card::count(table) <= application {
+    if card::entries(table) <= application {
         return false;
     }
     card::tree::root_of(table, application) == application

@@ -35,7 +35,7 @@ carried-few capdu small = on-pick (λ (n : ℕ). n < 256) (leb 3 (caseBySize cap
 
 -- a command whose form is whole where it has a case, and what is promised of it
 abbrev pub read : ℕ → ℕ → ℕ → ℕ → ℕ → ℕ → ℕ → ℕ → Reading
-read n a b p q r from count =
+read n a b p q r from size =
     record {
       command =
           record {
@@ -49,7 +49,7 @@ read n a b p q r from count =
             after = false;
           };
       from = from;
-      count = count;
+      size = size;
     }
 
 abbrev pub Told : List ℕ → Reading → Type 0
@@ -69,9 +69,9 @@ module _ (capdu : List ℕ) (bytes : AllBytes capdu) (least : 4 ≤ length capdu
         bytes = record { p1 = bytes 2; p2 = bytes 3; p3 = bytes 4; brief = carried-few capdu (bytes 4) };
       }
 
-  pub command-told : {n a b p q r from count : ℕ} → n ≡ caseBySize capdu → a ≡ byte capdu 0 → b ≡ byte capdu 1 → p ≡ byte capdu 2 → q ≡ byte capdu 3 → r ≡ byte capdu 4 → from ≡ pick (leb 3 n) 5 4 → count ≡ pick (leb 3 n) (byte capdu 4) 0 → Told capdu (read n a b p q r from count)
+  pub command-told : {n a b p q r from size : ℕ} → n ≡ caseBySize capdu → a ≡ byte capdu 0 → b ≡ byte capdu 1 → p ≡ byte capdu 2 → q ≡ byte capdu 3 → r ≡ byte capdu 4 → from ≡ pick (leb 3 n) 5 4 → size ≡ pick (leb 3 n) (byte capdu 4) 0 → Told capdu (read n a b p q r from size)
   unfolding capduCommand carried
-  command-told {n} {a} {b} {p} {q} {r} {from} {count} en ea eb ep eq er ef ec = (e, rw e command-fits)
+  command-told {n} {a} {b} {p} {q} {r} {from} {size} en ea eb ep eq er ef ec = (e, rw e command-fits)
     where
-      e : read n a b p q r from count ≡ capduCommand capdu
+      e : read n a b p q r from size ≡ capduCommand capdu
       e = (λ k. read n (ea k) (eb k) (ep k) (eq k) (er k) (ef k) (ec k)) ∙ (λ k. read (en k) (byte capdu 0) (byte capdu 1) (byte capdu 2) (byte capdu 3) (byte capdu 4) (pick (leb 3 (en k)) 5 4) (pick (leb 3 (en k)) (byte capdu 4) 0))

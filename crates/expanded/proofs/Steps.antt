@@ -47,7 +47,7 @@ module _ (before : Gathered) (card : Card) (out : List ℕ) (room : before .kept
       (commanded Expanded domain (r .command) «data» (before .step .session) kept counts card)
 
   -- a C-APDU that was run
-  module _ (definite : Bool) (domain : ℕ) (capdu : List ℕ) (r : Reading) (is : r ≡ capduCommand capdu) (counts : Bool) (hc : counts ≡ keeps definite (r .command .case)) («data» : List ℕ) (hd : «data» ≡ part capdu (r .from) (r .count))
+  module _ (definite : Bool) (domain : ℕ) (capdu : List ℕ) (r : Reading) (is : r ≡ capduCommand capdu) (counts : Bool) (hc : counts ≡ keeps definite (r .command .case)) («data» : List ℕ) (hd : «data» ≡ part capdu (r .from) (r .size))
       (next : Step) (card′ : Card) (e : stateOf next card′ ≡ after domain r (before .kept) counts «data») where
     abbrev new : List ℕ
     new = lastRapdu next (card′ .files)
@@ -57,7 +57,7 @@ module _ (before : Gathered) (card : Card) (out : List ℕ) (room : before .kept
     ran =
         (λ i. answered counts (e i) (take (before .kept) out) (lastRapdu (e i .step) (e i .card .files)))
         ∙ (λ i. of r (sym (length-take-le (before .kept) out room) i) (hc i) (hd i))
-        ∙ (λ i. of (is i) (length (take (before .kept) out)) (keeps definite (is i .command .case)) (part capdu (is i .from) (is i .count)))
+        ∙ (λ i. of (is i) (length (take (before .kept) out)) (keeps definite (is i .command .case)) (part capdu (is i .from) (is i .size)))
       where
         of : Reading → ℕ → Bool → List ℕ → Progress
         of r kept counts «data» =

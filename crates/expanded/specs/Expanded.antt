@@ -93,7 +93,7 @@ stepCapdu definite domain capdu p =
     let counts : Bool = keeps definite (r .command .case) in
     let st : State =
     stepped (p .state)
-    (commanded Expanded domain (r .command) (part capdu (r .from) (r .count)) (p .state .step .session) (length (p .kept)) counts (p .state .card))
+    (commanded Expanded domain (r .command) (part capdu (r .from) (r .size)) (p .state .step .session) (length (p .kept)) counts (p .state .card))
     in
     answered counts st (p .kept) (lastRapdu (st .step) (st .card .files))
 

@@ -59,12 +59,12 @@ pub fn command_of(capdu: &[u8]) -> Reading
         return Reading {
             command,
             from: 5,
-            count: fifth(capdu),
+            size: fifth(capdu),
         };
     }
     Reading {
         command,
         from: 4,
-        count: 0,
+        size: 0,
     }
 }

@@ -81,7 +81,7 @@ fn step_capdu(
 {
     let r = command_of(capdu);
     let from = r.from;
-    let end = from + r.count;
+    let end = from + r.size;
     let c = r.command;
     let counts = keeps(definite, c.case);
     let kept = before.kept;

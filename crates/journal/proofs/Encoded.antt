@@ -47,7 +47,7 @@ module _ (t : List ℕ) (files : ℕ) (j : List ℕ) where
   encoded =
       on-sound (λ u es. part j headSize u ≡ encodeAll es) refl
       (λ u es r fits x.
-      let n = entryBytes (tailAt j u .count) in
+      let n = entryBytes (tailAt j u .size) in
       ap (part j headSize) (sym (begins j u r)) ∙ take-add (before j u) n (drop headSize j)
       ∙ (λ i. x i ++ take n (drop-drop (before j u) headSize j i))
       ∙ ap (λ (bs : List ℕ). encodeAll es ++ bs) (entry-bytes j u r fits))

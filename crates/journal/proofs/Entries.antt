@@ -19,7 +19,7 @@ use Rattle.journal.specs.Entries.{Entry, headSize, usedBytes, tailSize, 
 
 -- where the entry begins that ends where the first u bytes of entries end
 abbrev pub before : List ℕ → ℕ → ℕ
-before j u = u - entryBytes (tailAt j u .count)
+before j u = u - entryBytes (tailAt j u .size)
 
 -- the entries that the first u bytes of entries of a journal hold, newest first
 pub data Reading (j : List ℕ) : ℕ → List Entry → Type 0 where
@@ -43,11 +43,11 @@ module _ (n : ℕ) (j : List ℕ) (u : ℕ) (some : 0 < u) where
   back-stop h = rw (entriesBack, ne-eqb u 0 (λ e. omega arith), h)
 
 -- a whole entry is no longer than the bytes
-pub count-fits : (j : List ℕ) (u : ℕ) → readable j u ≡ true → entryBytes (tailAt j u .count) ≤ u
+pub count-fits : (j : List ℕ) (u : ℕ) → readable j u ≡ true → entryBytes (tailAt j u .size) ≤ u
 unfolding readable
 count-fits j u h = leb-true _ _ (and-left _ (formed (tailBytes j u)) h)
 
-pub readable-fits : (j : List ℕ) (u : ℕ) {l : Tail} → l ≡ tailAt j u → readable j u ≡ true → entryBytes (l .count) ≤ u
+pub readable-fits : (j : List ℕ) (u : ℕ) {l : Tail} → l ≡ tailAt j u → readable j u ≡ true → entryBytes (l .size) ≤ u
 readable-fits j u e h = rw e (count-fits j u h)
 
 -- what is read back is what the bytes hold, and nothing else is
@@ -108,7 +108,7 @@ module _ (j k : List ℕ) (u : ℕ) (alike : part j headSize u ≡ part k headSi
     unfolding entryAt oldPlace
     same-entry =
         let c = count-fits j u r in
-        let n = tailAt j u .count in
+        let n = tailAt j u .size in
         let q : headSize + u - entryBytes n ≡ headSize + (u - entryBytes n) = omega arith in
         let o : part j (headSize + u - entryBytes n) n ≡ part k (headSize + u - entryBytes n) n = rw q (part-same (u - entryBytes n) n (omega arith)) in
         rw (o, same-tail)

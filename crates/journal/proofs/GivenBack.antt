@@ -34,11 +34,11 @@ use Rattle.journal.proofs.Tested.{stuck-unsound}
 
 -- an entry's old bytes, as the tail that was read tells their place
 abbrev pub oldPart : List ℕ → ℕ → Tail → List ℕ
-oldPart j u l = let at : ℕ = headSize + u - entryBytes (l .count) in part j at (at + l .count - at)
+oldPart j u l = let at : ℕ = headSize + u - entryBytes (l .size) in part j at (at + l .size - at)
 
 old-part : (j : List ℕ) (u : ℕ) (l : Tail) → l ≡ tailAt j u → oldPart j u l ≡ entryAt j u .old
 unfolding entryAt oldPlace
-old-part j u l e = rw (add-sub-cancel-left (headSize + u - entryBytes (l .count)) (l .count), e)
+old-part j u l e = rw (add-sub-cancel-left (headSize + u - entryBytes (l .size)) (l .size), e)
 
 -- an entry's old bytes are given back to the memory that they came from
 module _ (j : List ℕ) (u : ℕ) {l : Tail} (e : l ≡ tailAt j u) where
@@ -110,7 +110,7 @@ module _ {t₀ f₀ j : List ℕ} {used : ℕ} {t f : List ℕ} {u : ℕ} (g : G
   back-sound = newest-sound t₀ (length f₀) j u any (g .sound)
 
   module _ (k : tailAt j u .kind ≡ marksStart) where
-    mark-empty : tailAt j u .count ≡ 0
+    mark-empty : tailAt j u .size ≡ 0
     unfolding entrySound formSound entryAt pick
     mark-empty =
         let e : Entry = entryAt j u in
@@ -138,7 +138,7 @@ module _ {t₀ f₀ j : List ℕ} {used : ℕ} {t f : List ℕ} {u : ℕ} (g : G
     back-inside =
         rw (memory-length (memoryFor (entryAt j u)) (lent t f j) (lent t₀ f₀ j) (g .same-table) (g .same-files)) (entry-inside (lent t₀ f₀ j) (entryAt j u) back-sound other)
 
-    pub back-goes-on : {t′ f′ : List ℕ} → length t′ ≡ length t → length f′ ≡ length f → lent t′ f′ j ≡ restoreOne (entryAt j u) (lent t f j) → GoesBack t₀ f₀ j used t′ f′ (u - entryBytes (l .count))
+    pub back-goes-on : {t′ f′ : List ℕ} → length t′ ≡ length t → length f′ ≡ length f → lent t′ f′ j ≡ restoreOne (entryAt j u) (lent t f j) → GoesBack t₀ f₀ j used t′ f′ (u - entryBytes (l .size))
     unfolding restore
     back-goes-on lt lf r =
         let es : List Entry = entriesBack (before j u) j (before j u) in

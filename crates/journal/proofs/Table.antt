@@ -58,7 +58,7 @@ module _ (t u : List ℕ) (rows : Rows t u) where
   place-kept : (p old : ℕ) → tablePlaceSound u p old ≡ tablePlaceSound t p old
   unfolding tablePlaceSound
   place-kept p old =
-      λ i. ltb (p / 16) (rows .count i) && test-kept t u rows (λ (r : Row). tableByteSound r (p % 16) old) (λ r. blind r (p % 16) old) (p / 16) i
+      λ i. ltb (p / 16) (rows .sameEntries i) && test-kept t u rows (λ (r : Row). tableByteSound r (p % 16) old) (λ r. blind r (p % 16) old) (p / 16) i
 
   pub form-kept : (files kind p n old : ℕ) → formSound u files kind p n old ≡ formSound t files kind p n old
   unfolding formSound

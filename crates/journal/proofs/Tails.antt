@@ -30,9 +30,9 @@ unfolding encode tail bytes2
 tail-of e = ap (take tailSize) (drop-append-seam (e .old) (tail (e .kind) (e .place) (length (e .old))))
 
 module _ (kind place n : ℕ) (near : place < 65536) (few : n < 65536) where
-  tail-in : tailIn (tail kind place n) ≡ record { kind = kind; place = place; count = n }
+  tail-in : tailIn (tail kind place n) ≡ record { kind = kind; place = place; size = n }
   unfolding tailIn tail bytes2 numAt
-  tail-in = λ i. record { kind = kind; place = num-bytes2 place near i; count = num-bytes2 n few i }
+  tail-in = λ i. record { kind = kind; place = num-bytes2 place near i; size = num-bytes2 n few i }
 
   tail-formed : formed (tail kind place n) ≡ true
   unfolding formed
@@ -40,30 +40,30 @@ module _ (kind place n : ℕ) (near : place < 65536) (few : n < 65536) where
 
 -- where a whole entry ends
 module _ (j : List ℕ) (u : ℕ) (whole : readable j u ≡ true) where
-  tail-is : tailBytes j u ≡ tail (tailAt j u .kind) (tailAt j u .place) (tailAt j u .count)
+  tail-is : tailBytes j u ≡ tail (tailAt j u .kind) (tailAt j u .place) (tailAt j u .size)
   unfolding readable formed tailAt
-  tail-is = same-true _ _ (and-right (leb (entryBytes (tailAt j u .count)) u) _ whole)
+  tail-is = same-true _ _ (and-right (leb (entryBytes (tailAt j u .size)) u) _ whole)
 
-  pub begins : before j u + entryBytes (tailAt j u .count) ≡ u
+  pub begins : before j u + entryBytes (tailAt j u .size) ≡ u
   begins = let c = count-fits j u whole in omega arith
 
   module _ (fits : headSize + u ≤ length j) where
-    pub old-length : length (entryAt j u .old) ≡ tailAt j u .count
+    pub old-length : length (entryAt j u .old) ≡ tailAt j u .size
     unfolding entryAt oldPlace
-    old-length = let c = count-fits j u whole in part-length j (headSize + u - entryBytes (tailAt j u .count)) (tailAt j u .count) (omega arith)
+    old-length = let c = count-fits j u whole in part-length j (headSize + u - entryBytes (tailAt j u .size)) (tailAt j u .size) (omega arith)
 
-    entry-end : part j (headSize + before j u + tailAt j u .count) tailSize ≡ tail (tailAt j u .kind) (tailAt j u .place) (length (entryAt j u .old))
+    entry-end : part j (headSize + before j u + tailAt j u .size) tailSize ≡ tail (tailAt j u .kind) (tailAt j u .place) (length (entryAt j u .old))
     unfolding tailBytes
     entry-end =
         let c = count-fits j u whole in
-        let q : headSize + before j u + tailAt j u .count ≡ headSize + u - tailSize = omega arith in
+        let q : headSize + before j u + tailAt j u .size ≡ headSize + u - tailSize = omega arith in
         rw (q, old-length) tail-is
 
-    pub entry-bytes : part j (headSize + before j u) (entryBytes (tailAt j u .count)) ≡ encode (entryAt j u)
+    pub entry-bytes : part j (headSize + before j u) (entryBytes (tailAt j u .size)) ≡ encode (entryAt j u)
     unfolding encode entryAt oldPlace
     entry-bytes =
         let c = count-fits j u whole in
-        let n = tailAt j u .count in
+        let n = tailAt j u .size in
         let at = headSize + before j u in
         let swap : entryBytes n ≡ n + tailSize = omega arith in
         let front : at ≡ headSize + u - entryBytes n = omega arith in
@@ -80,7 +80,7 @@ module _ (m : List ℕ) (u : ℕ) (e : Entry) (there : part m (headSize + u) (le
       let q : headSize + (u + length (encode e)) - tailSize ≡ headSize + u + n = omega arith in
       rw q (sym (part-part m (headSize + u) (length (encode e)) n tailSize (omega arith)) ∙ ap (λ (k : List ℕ). part k n tailSize) there ∙ tail-of e)
 
-  at-there : tailAt m (u + length (encode e)) ≡ record { kind = e .kind; place = e .place; count = length (e .old) }
+  at-there : tailAt m (u + length (encode e)) ≡ record { kind = e .kind; place = e .place; size = length (e .old) }
   unfolding tailAt
   at-there = ap tailIn tail-there ∙ tail-in (e .kind) (e .place) (length (e .old)) near few
 

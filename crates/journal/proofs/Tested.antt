@@ -47,26 +47,26 @@ formed-test bs l small =
     ∙ formed-eight (byte bs 0) (byte bs 1) (byte bs 2) (byte bs 3) (byte bs 4) (byte bs 5) (byte bs 6) (byte bs 7) (small 2) (small 3) (small 4) (small 5))
 
 -- whether an entry can be read
-pub readable-not : (j : List ℕ) (u : ℕ) → u < entryBytes (tailAt j u .count) → false ≡ readable j u
+pub readable-not : (j : List ℕ) (u : ℕ) → u < entryBytes (tailAt j u .size) → false ≡ readable j u
 unfolding readable
-readable-not j u h = rw (lt-leb (entryBytes (tailAt j u .count)) u h)
+readable-not j u h = rw (lt-leb (entryBytes (tailAt j u .size)) u h)
 
-pub readable-by-form : (j : List ℕ) (u : ℕ) → entryBytes (tailAt j u .count) ≤ u → formed (tailBytes j u) ≡ readable j u
+pub readable-by-form : (j : List ℕ) (u : ℕ) → entryBytes (tailAt j u .size) ≤ u → formed (tailBytes j u) ≡ readable j u
 unfolding readable
-readable-by-form j u h = rw (le-leb (entryBytes (tailAt j u .count)) u h)
+readable-by-form j u h = rw (le-leb (entryBytes (tailAt j u .size)) u h)
 
 -- an entry's soundness, from its tail and its first old byte
 module _ {b : Bool} (t : List ℕ) (files : ℕ) (j : List ℕ) (u : ℕ) {l : Tail} (e : l ≡ tailAt j u) where
-  pub entry-empty : l .count ≡ 0 → b ≡ formSound t files (l .kind) (l .place) 0 0 → b ≡ entrySound t files (entryAt j u)
+  pub entry-empty : l .size ≡ 0 → b ≡ formSound t files (l .kind) (l .place) 0 0 → b ≡ entrySound t files (entryAt j u)
   unfolding entrySound entryAt
-  entry-empty z r = let n : tailAt j u .count ≡ 0 = rw e at z in r ∙ rw (e, n)
+  entry-empty z r = let n : tailAt j u .size ≡ 0 = rw e at z in r ∙ rw (e, n)
 
-  pub entry-first : headSize + u ≤ length j → readable j u ≡ true → 0 < l .count → {old : ℕ} → old ≡ byte j (headSize + u - entryBytes (l .count)) → b ≡ formSound t files (l .kind) (l .place) (l .count) old → b ≡ entrySound t files (entryAt j u)
+  pub entry-first : headSize + u ≤ length j → readable j u ≡ true → 0 < l .size → {old : ℕ} → old ≡ byte j (headSize + u - entryBytes (l .size)) → b ≡ formSound t files (l .kind) (l .place) (l .size) old → b ≡ entrySound t files (entryAt j u)
   unfolding entrySound entryAt oldPlace
   entry-first fits h some q r =
-      let at : ℕ = headSize + u - entryBytes (tailAt j u .count) in
-      let n : 0 < tailAt j u .count = rw e at some in
-      let f : byte (part j at (tailAt j u .count)) 0 ≡ byte j at = byte-part j at (tailAt j u .count) 0 n ∙ rw (add-zero at) in
+      let at : ℕ = headSize + u - entryBytes (tailAt j u .size) in
+      let n : 0 < tailAt j u .size = rw e at some in
+      let f : byte (part j at (tailAt j u .size)) 0 ≡ byte j at = byte-part j at (tailAt j u .size) 0 n ∙ rw (add-zero at) in
       r ∙ rw (q, e, old-length j u h fits, f)
 
 -- bytes that are no entry are not sound
@@ -95,7 +95,7 @@ module _ {b : Bool} (t : List ℕ) (files scripts : ℕ) (j : List ℕ) (u n : �
   unfolding soundFrom allSound
   sound-fails h f = sym (rw (back-next j u h, f) at left)
 
-  pub sound-goes-on : readable j u ≡ true → entrySound t files (entryAt j u) ≡ true → {l : Tail} {p : ℕ} → l ≡ tailAt j u → p ≡ pick (eqb (l .kind) marksStart) 1 0 → b ≡ soundFrom t files scripts (entriesBack (u - entryBytes (l .count)) j (u - entryBytes (l .count))) (n + p) (eqb (l .kind) marksStart)
+  pub sound-goes-on : readable j u ≡ true → entrySound t files (entryAt j u) ≡ true → {l : Tail} {p : ℕ} → l ≡ tailAt j u → p ≡ pick (eqb (l .kind) marksStart) 1 0 → b ≡ soundFrom t files scripts (entriesBack (u - entryBytes (l .size)) j (u - entryBytes (l .size))) (n + p) (eqb (l .kind) marksStart)
   unfolding soundFrom allSound lastIsMark marks entryAt
   sound-goes-on h f e q =
       rw (q, e, add-assoc n (pick (eqb (tailAt j u .kind) marksStart) 1 0) (marks (entriesBack (before j u) j (before j u)))) (rw (back-next j u h, f) at left)

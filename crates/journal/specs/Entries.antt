@@ -88,18 +88,18 @@ unfoldable pub tailBytes : List ℕ → ℕ → List ℕ
 tailBytes j u = part j (headSize + u - tailSize) tailSize
 
 unfoldable pub tailIn : List ℕ → Tail
-tailIn bs = record { kind = byte bs 0; place = numAt bs 2; count = numAt bs 4 }
+tailIn bs = record { kind = byte bs 0; place = numAt bs 2; size = numAt bs 4 }
 
 unfoldable pub tailAt : List ℕ → ℕ → Tail
 tailAt j u = tailIn (tailBytes j u)
 
 -- whether bytes have the form of a tail
 unfoldable pub formed : List ℕ → Bool
-formed bs = same bs (tail (tailIn bs .kind) (tailIn bs .place) (tailIn bs .count))
+formed bs = same bs (tail (tailIn bs .kind) (tailIn bs .place) (tailIn bs .size))
 
 -- where the old bytes stand of the entry that ends there
 unfoldable pub oldPlace : List ℕ → ℕ → ℕ
-oldPlace j u = headSize + u - entryBytes (tailAt j u .count)
+oldPlace j u = headSize + u - entryBytes (tailAt j u .size)
 
 -- the entry that ends where the first u bytes of entries end
 unfoldable pub entryAt : List ℕ → ℕ → Entry
@@ -107,12 +107,12 @@ entryAt j u =
     record {
       kind = tailAt j u .kind;
       place = tailAt j u .place;
-      old = part j (oldPlace j u) (tailAt j u .count);
+      old = part j (oldPlace j u) (tailAt j u .size);
     }
 
 -- whether a whole entry ends there: its bytes are there, and its tail has the form of a tail
 unfoldable pub readable : List ℕ → ℕ → Bool
-readable j u = leb (entryBytes (tailAt j u .count)) u && formed (tailBytes j u)
+readable j u = leb (entryBytes (tailAt j u .size)) u && formed (tailBytes j u)
 
 -- what stands for bytes that are no entry; its kind is none
 unfoldable pub noEntry : Entry
@@ -125,7 +125,7 @@ entriesBack (suc n) j u =
     elim (eqb u 0) [
       | true ↦ []
       | false ↦ elim (readable j u) [
-        | true ↦ entryAt j u ∷ entriesBack n j (u - entryBytes (tailAt j u .count))
+        | true ↦ entryAt j u ∷ entriesBack n j (u - entryBytes (tailAt j u .size))
         | false ↦ noEntry ∷ []
       ]
     ]

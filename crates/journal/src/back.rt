@@ -23,8 +23,8 @@ fn restore_one(table: &mut [u8], files: &mut [u8], journal: &[u8], u: usize)
 {
     let tail = tail_at(journal, u);
     let place = tail.place;
-    let at = HEAD_SIZE + u - (TAIL_SIZE + tail.count);
-    let end = at + tail.count;
+    let at = HEAD_SIZE + u - (TAIL_SIZE + tail.size);
+    let end = at + tail.size;
     if tail.kind == HOLDS_TABLE_BYTE {
         octets::copy(table, place, &journal[at..end]);
         return;
@@ -45,7 +45,7 @@ fn restore_to_mark(table: &mut [u8], files: &mut [u8], journal: &[u8], used: usi
             return u - TAIL_SIZE;
         }
         restore_one(table, files, journal, u);
-        u -= TAIL_SIZE + tail.count;
+        u -= TAIL_SIZE + tail.size;
     }
 }
 

@@ -50,7 +50,7 @@ pub struct Head {
 pub struct Tail {
     pub kind: usize,
     pub place: usize,
-    pub count: usize,
+    pub size: usize,
 }
 
 // The memories that a command writes.

@@ -44,19 +44,19 @@ pub fn mark_fits(journal: &[u8]) -> bool
 // Returns what the eight bytes of a tail hold.
 fn tail_of(bytes: &[u8]) -> Tail
     requires { ⌜ length (now bytes) ≡ 8 ⌝ }
-    ensures { λ r. ⌜ (r ≡ tailIn (now (bytes .entry))) × (r .kind < 256) × (r .place < 65536) × (r .count < 65536) ⌝ }
+    ensures { λ r. ⌜ (r ≡ tailIn (now (bytes .entry))) × (r .kind < 256) × (r .place < 65536) × (r .size < 65536) ⌝ }
 {
     Tail {
         kind: octets::wide(bytes[0]),
         place: octets::num_at(bytes, 2),
-        count: octets::num_at(bytes, 4),
+        size: octets::num_at(bytes, 4),
     }
 }
 
 // Returns the tail that ends where the first u bytes of entries end.
 pub fn tail_at(journal: &[u8], u: usize) -> Tail
     requires { ⌜ (8 ≤ u) × (4 + u ≤ length (now journal)) ⌝ }
-    ensures { λ r. ⌜ (r ≡ tailAt (now (journal .entry)) u) × (r .kind < 256) × (r .place < 65536) × (r .count < 65536) ⌝ }
+    ensures { λ r. ⌜ (r ≡ tailAt (now (journal .entry)) u) × (r .kind < 256) × (r .place < 65536) × (r .size < 65536) ⌝ }
 {
     let at = HEAD_SIZE + u - TAIL_SIZE;
     tail_of(&journal[at..at + TAIL_SIZE])
@@ -79,7 +79,7 @@ pub fn is_readable(journal: &[u8], u: usize) -> bool
         return false;
     }
     let tail = tail_at(journal, u);
-    if u < TAIL_SIZE + tail.count {
+    if u < TAIL_SIZE + tail.size {
         return false;
     }
     let at = HEAD_SIZE + u - TAIL_SIZE;

@@ -40,7 +40,7 @@ fn table_place_sound(table: &[u8], place: usize, old: usize) -> bool
     ensures { λ b. ⌜ b ≡ tablePlaceSound (now (table .entry)) place old ⌝ }
 {
     let e = place / card::ENTRY_SIZE;
-    if card::count(table) <= e {
+    if card::entries(table) <= e {
         return false;
     }
     let r = card::row_at(table, e);
@@ -75,7 +75,7 @@ fn entry_sound(table: &[u8], files: usize, journal: &[u8], u: usize) -> bool
     ensures { λ b. ⌜ b ≡ entrySound (now (table .entry)) files (entryAt (now (journal .entry)) u) ⌝ }
 {
     let tail = tail_at(journal, u);
-    let n = tail.count;
+    let n = tail.size;
     if n == 0 {
         return form_sound(table, files, tail.kind, tail.place, 0, 0);
     }
@@ -113,7 +113,7 @@ fn entries_sound(table: &[u8], files: usize, journal: &[u8], used: usize, script
         let tail = tail_at(journal, u);
         oldest = tail.kind == MARKS_START;
         marks += one_if_mark(tail.kind);
-        u -= TAIL_SIZE + tail.count;
+        u -= TAIL_SIZE + tail.size;
     }
     oldest & (marks == scripts)
 }

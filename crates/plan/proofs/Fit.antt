@@ -100,7 +100,7 @@ module _ (card : Card) (sound : soundTable (card .table) (card .files) ≡ true)
     abbrev r : Row
     r = rowOf (card .table) (s .file)
 
-    file : GoodFile (card .table) (s .root) (s .file) (s .number)
+    file : GoodFile (card .table) (s .root) (s .file) (s .«record_number»)
     file = good .file some
 
     own : ownSound (length (card .files)) r ≡ true
@@ -137,22 +137,22 @@ module _ (card : Card) (sound : soundTable (card .table) (card .files) ≡ true)
       unfolding atNamed numberAfter
       at-named n most =
           good-record (card .table) s good _
-          (on-pick (λ k. 1 ≤ k → (1 ≤ s .file) × (hasRecords r ≡ true) × (k ≤ recordCount r)) _ (s .number) n (λ y h. (some, has, file .within h)) (λ y h. (some, has, most)))
+          (on-pick (λ k. 1 ≤ k → (1 ≤ s .file) × (hasRecords r ≡ true) × (k ≤ recordCount r)) _ (s .«record_number») n (λ y h. (some, has, file .within h)) (λ y h. (some, has, most)))
 
-      pub fit-record : namedBy c (s .number) r ≤ recordCount r → Fit card c (readRecord c s (fileAt card (s .file)))
+      pub fit-record : namedBy c (s .«record_number») r ≤ recordCount r → Fit card c (readRecord c s (fileAt card (s .file)))
       unfolding readRecord fileAt
       fit-record most =
           let short = record-short (length (card .files)) r own has in
-          fit-handed card c _ (at-named (namedBy c (s .number) r) most) _ _ _
-          (record-inside card sound (s .file) (file .belongs .inside) has (namedBy c (s .number) r))
+          fit-handed card c _ (at-named (namedBy c (s .«record_number») r) most) _ _ _
+          (record-inside card sound (s .file) (file .belongs .inside) has (namedBy c (s .«record_number») r))
           (λ b. omega arith)
 
-      pub fit-rewrite : («data» : List ℕ) → length «data» ≡ r .«record_length» → (isCyclic r ≡ false → namedBy c (s .number) r ≤ recordCount r) → Fit card c (updateRecord c «data» s (fileAt card (s .file)))
+      pub fit-rewrite : («data» : List ℕ) → length «data» ≡ r .«record_length» → (isCyclic r ≡ false → namedBy c (s .«record_number») r ≤ recordCount r) → Fit card c (updateRecord c «data» s (fileAt card (s .file)))
       unfolding updateRecord fileAt
       fit-rewrite «data» fits most =
           on-pick (Fit card c) _ _ _
           (λ y. fit-done card c _ (at-number 1 (records-some (length (card .files)) r own has)) _ _ (in-newest card sound (s .file) (file .belongs .inside) has «data» fits y))
-          (λ n. fit-done card c _ (at-named (namedBy c (s .number) r) (most n)) _ _ (in-record card sound (s .file) (file .belongs .inside) has «data» fits (namedBy c (s .number) r), tt))
+          (λ n. fit-done card c _ (at-named (namedBy c (s .«record_number») r) (most n)) _ _ (in-record card sound (s .file) (file .belongs .inside) has «data» fits (namedBy c (s .«record_number») r), tt))
 
       fit-found : (format : Format) (ns : List ℕ) → length ns ≤ recordCount r → First (recordCount r) ns → Fit card c (searched format s ns)
       unfolding searched
@@ -160,11 +160,11 @@ module _ (card : Card) (sound : soundTable (card .table) (card .files) ≡ true)
       fit-found format (n ∷ ns) few first =
           fit-produced card c (atRecord s n) (at-number n (first .1)) format _ (n ∷ ns) [] (omega (arith, records-few (length (card .files)) r own has)) tt
 
-      pub fit-search : (format : Format) («data» : List ℕ) → 1 ≤ namedBy c (s .number) r → namedBy c (s .number) r ≤ recordCount r → Fit card c (search format c «data» s (fileAt card (s .file)))
+      pub fit-search : (format : Format) («data» : List ℕ) → 1 ≤ namedBy c (s .«record_number») r → namedBy c (s .«record_number») r ≤ recordCount r → Fit card c (search format c «data» s (fileAt card (s .file)))
       unfolding search fileAt
       fit-search format «data» least most =
           let content = part (card .files) (r .start) (r .size) in
-          fit-found format _ (found-few r content (c .p2) «data» (namedBy c (s .number) r) least most) (found-first r content (c .p2) «data» (namedBy c (s .number) r) least most)
+          fit-found format _ (found-few r content (c .p2) «data» (namedBy c (s .«record_number») r) least most) (found-first r content (c .p2) «data» (namedBy c (s .«record_number») r) least most)
 
       pub fit-increase : (format : Format) («data» : List ℕ) → isCyclic r ≡ true → r .«record_length» ≤ 127 → length «data» ≤ r .«record_length» → Fit card c (increase format «data» s (fileAt card (s .file)))
       unfolding increase fileAt

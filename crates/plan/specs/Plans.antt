@@ -82,18 +82,18 @@ namedBy c number r =
 
 -- B2 and DC: the record number after a record was named
 unfoldable pub atNamed : Command → Standing → ℕ → Standing
-atNamed c s number = atRecord s (numberAfter (c .p2) (s .number) number)
+atNamed c s number = atRecord s (numberAfter (c .p2) (s .«record_number») number)
 
 -- B2 READ RECORD
 unfoldable pub readRecord : Command → Standing → File → Plan
 readRecord c s f =
-    let number : ℕ = namedBy c (s .number) (f .row) in
+    let number : ℕ = namedBy c (s .«record_number») (f .row) in
     handed (atNamed c s number) normal (f .row .start + recordOffset (f .row) number) (f .row .«record_length»)
 
 -- DC UPDATE RECORD; "on cyclic: .. it writes the oldest place, which becomes newest, record number 1"
 unfoldable pub updateRecord : Command → List ℕ → Standing → File → Plan
 updateRecord c «data» s f =
-    let number : ℕ = namedBy c (s .number) (f .row) in
+    let number : ℕ = namedBy c (s .«record_number») (f .row) in
     pick (isCyclic (f .row))
     (done (atRecord s 1) normal (newRecord f «data»))
     (done (atNamed c s number) normal (writeIn f (recordOffset (f .row) number) «data» ∷ []))
@@ -105,7 +105,7 @@ searched format s (r ∷ rs) = produced format (atRecord s r) normal (r ∷ rs) 
 
 unfoldable pub search : Format → Command → List ℕ → Standing → File → Plan
 search format c «data» s f =
-    searched format s (foundRecords (f .row) (f .content) (c .p2) «data» (namedBy c (s .number) (f .row)))
+    searched format s (foundRecords (f .row) (f .content) (c .p2) «data» (namedBy c (s .«record_number») (f .row)))
 
 -- "32 INCREASE, ..: record 1 plus the data becomes the new record 1, as DC would. Data: new record, then the added bytes."
 unfoldable pub increase : Format → List ℕ → Standing → File → Plan
@@ -121,7 +121,7 @@ switch state s f =
 -- "C0 GET RESPONSE (compact): the first P3 waiting bytes, 00 all, with the kept word."
 unfoldable pub getResponse : Command → Standing → Plan
 getResponse c s =
-    record { session = s; outcome = FromWaiting (s .kept) (pick (eqb (c .p3) 0) (s .valid) (c .p3)); made = []; writes = [] }
+    record { session = s; outcome = FromWaiting (s .word) (pick (eqb (c .p3) 0) (s .valid) (c .p3)); made = []; writes = [] }
 
 -- what an instruction does in a situation where every check holds
 unfoldable pub doneBy : ℕ → Situation → Plan

@@ -5,7 +5,7 @@ use mathlib.Core.Path.{_≡_}
 use lib.ListN.{length, take}
 use Rattle.octets.specs.Choice.{pick}
 use Rattle.card.specs.declared.Row.{Row}
-use Rattle.card.specs.Row.{Narrow, isCyclic, placeOfNewest}
+use Rattle.card.specs.Row.{RowFits, isCyclic, placeOfNewest}
 use Rattle.card.specs.Sound.{recordCount}
 use Rattle.card.specs.Records.{recordOffset, oldestPlace}
 use Rattle.journal.specs.declared.Memory.the-variants.{Files, Table}
@@ -26,7 +26,7 @@ use Rattle.plan.specs.Plans.{namedBy}
 
 -- what every record file of a sound table has, over a file memory of `files` bytes
 pub record Recorded (files : ℕ) (r : Row) : Type 0 where
-  pub narrow : Narrow r
+  pub narrow : RowFits r
   pub least : 1 ≤ r .«record_length»
   pub counted : 1 ≤ recordCount r
   pub most : recordCount r < 255
@@ -93,7 +93,7 @@ unfoldable pub updateChange : Command → Standing → Row → Change
 updateChange c s r =
     pick (isCyclic r)
     (DataRecord (newestOf (s .file) r))
-    (Content (r .start) (r .size) (recordOffset r (namedBy c (s .number) r)))
+    (Content (r .start) (r .size) (recordOffset r (namedBy c (s .«record_number») r)))
 
 -- a plan after the check of a file command's sum
 unfoldable pub summed : ℕ → File → List ℕ → Standing → Plan → Plan

@@ -24,7 +24,7 @@ ghost use mathlib.Core.List.{List};
 ghost use Prim.Native.Nat.{ℕ, _≤_, _<_, min};
 ghost use lib.ListN.{length};
 ghost use Rattle.octets.specs.Bytes.{part};
-ghost use Rattle.card.specs.Row.{Narrow, isCyclic, placeOfNewest, placeOfState};
+ghost use Rattle.card.specs.Row.{RowFits, isCyclic, placeOfNewest, placeOfState};
 ghost use Rattle.card.specs.Sound.{recordCount};
 ghost use Rattle.session.specs.Session.{mostWaiting};
 ghost use Rattle.session.specs.Fcp.{FcpFits};
@@ -52,7 +52,7 @@ pub fn select_entry(
     r: Row,
     made: &mut [u8],
 ) -> Decision
-    requires { ⌜ FcpFits r × Narrow r × (e < 256) × (length (now made) ≡ mostWaiting) ⌝ }
+    requires { ⌜ FcpFits r × RowFits r × (e < 256) × (length (now made) ≡ mostWaiting) ⌝ }
     ensures { λ d. ⌜ ((«data» : List ℕ) → planOf d «data» (now (made .exit)) ≡ plans.selectEntry format s p2 e r) × (d .change ≡ Change.Nothing) ⌝ }
 {
     let next = session::selected(s, e, r);
@@ -86,7 +86,7 @@ fn least(a: usize, b: usize) -> usize
 
 // Returns what READ BINARY does.
 pub fn read_binary(format: Format, c: Command, s: Standing, r: Row) -> Decision
-    requires { ⌜ Narrow r × (c .p1 < 256) × (c .p2 < 256) × (plans.offsetOf c < r .size) ⌝ }
+    requires { ⌜ RowFits r × (c .p1 < 256) × (c .p2 < 256) × (plans.offsetOf c < r .size) ⌝ }
     ensures { λ d. ⌜ ((«data» bytes : List ℕ) (f : File) → f .row ≡ r → planOf d «data» bytes ≡ plans.readBinary format c s f) × (d .change ≡ Change.Nothing) ⌝ }
 {
     let offset = c.p1 * 256 + c.p2;
@@ -112,10 +112,10 @@ pub fn update_binary(c: Command, s: Standing, r: Row) -> Decision
 
 // Returns what READ RECORD does.
 pub fn read_record(c: Command, s: Standing, r: Row) -> Decision
-    requires { ⌜ Narrow r × (1 ≤ r .«record_length») × (recordCount r < 256) × (1 ≤ plans.namedBy c (s .number) r) × (plans.namedBy c (s .number) r ≤ recordCount r) ⌝ }
+    requires { ⌜ RowFits r × (1 ≤ r .«record_length») × (recordCount r < 256) × (1 ≤ plans.namedBy c (s .«record_number») r) × (plans.namedBy c (s .«record_number») r ≤ recordCount r) ⌝ }
     ensures { λ d. ⌜ ((«data» bytes : List ℕ) (f : File) → f .row ≡ r → planOf d «data» bytes ≡ plans.readRecord c s f) × (d .change ≡ Change.Nothing) ⌝ }
 {
-    let current = s.number as usize;
+    let current = s.record_number as usize;
     let number = record_of(c, current, r);
     let place = r.start + card::records::record_offset(r, number);
     let next = session::at_record(s, number_after(c.p2, current, number));
@@ -124,7 +124,7 @@ pub fn read_record(c: Command, s: Standing, r: Row) -> Decision
 
 // Returns the new record of a cyclic file, at the oldest place.
 fn new_record(file: usize, r: Row) -> NewRecord
-    requires { ⌜ Narrow r × (1 ≤ r .«record_length») × (1 ≤ recordCount r) ⌝ }
+    requires { ⌜ RowFits r × (1 ≤ r .«record_length») × (1 ≤ recordCount r) ⌝ }
     ensures { λ n. ⌜ n ≡ newestOf file r ⌝ }
 {
     NewRecord {
@@ -138,14 +138,14 @@ fn new_record(file: usize, r: Row) -> NewRecord
 
 // Returns what UPDATE RECORD does.
 pub fn update_record(c: Command, s: Standing, r: Row) -> Decision
-    requires { ⌜ Narrow r × (1 ≤ r .«record_length») × (1 ≤ recordCount r) × (recordCount r < 256) × (isCyclic r ≡ false → (1 ≤ plans.namedBy c (s .number) r) × (plans.namedBy c (s .number) r ≤ recordCount r)) ⌝ }
+    requires { ⌜ RowFits r × (1 ≤ r .«record_length») × (1 ≤ recordCount r) × (recordCount r < 256) × (isCyclic r ≡ false → (1 ≤ plans.namedBy c (s .«record_number») r) × (plans.namedBy c (s .«record_number») r ≤ recordCount r)) ⌝ }
     ensures { λ d. ⌜ ((«data» bytes : List ℕ) (f : File) → f .row ≡ r → f .entry ≡ s .file → planOf d «data» bytes ≡ plans.updateRecord c «data» s f) × (d .change ≡ updateChange c s r) ⌝ }
 {
     if r.kind == card::CYCLIC {
         let next = session::at_record(s, 1);
         return done(next, NORMAL, Change::DataRecord(new_record(target(s), r)));
     }
-    let current = s.number as usize;
+    let current = s.record_number as usize;
     let number = record_of(c, current, r);
     let offset = card::records::record_offset(r, number);
     let next = session::at_record(s, number_after(c.p2, current, number));
@@ -162,10 +162,10 @@ pub fn search_records(
     files: &[u8],
     made: &mut [u8],
 ) -> Decision
-    requires { ⌜ Recorded (length (now files)) r × (c .instruction ≡ ins.search) × (1 ≤ plans.namedBy c (s .number) r) × (plans.namedBy c (s .number) r ≤ recordCount r) × (length (now made) ≡ mostWaiting) ⌝ }
+    requires { ⌜ Recorded (length (now files)) r × (c .instruction ≡ ins.search) × (1 ≤ plans.namedBy c (s .«record_number») r) × (plans.namedBy c (s .«record_number») r ≤ recordCount r) × (length (now made) ≡ mostWaiting) ⌝ }
     ensures { λ d. ⌜ ((f : File) → f .row ≡ r → f .content ≡ part (now (files .entry)) (r .start) (r .size) → planOf d (now («data» .entry)) (now (made .exit)) ≡ plans.search format c (now («data» .entry)) s f) × (d .change ≡ Change.Nothing) ⌝ }
 {
-    let number = record_of(c, s.number as usize, r);
+    let number = record_of(c, s.record_number as usize, r);
     let n = crate::search::search(files, r, c.p2, number, data, made);
     if n == 0 {
         return done(s, END_OF_DATA, Change::Nothing);

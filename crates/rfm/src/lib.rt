@@ -8,7 +8,7 @@ ghost use Rattle.rfm.specs.Packed.{packed, crosses, across};
 
 // Returns an answer in one number.
 fn packed_answer(a: Answer) -> u64
-    requires { ⌜ calls.Small a ⌝ }
+    requires { ⌜ calls.AnswerFits a ⌝ }
     ensures { λ r. ⌜ r ≡ packed a ⌝ }
 {
     a.number as u64 + (256 * (a.count as u64) + 4294967296 * (a.length as u64))

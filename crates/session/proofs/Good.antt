@@ -88,12 +88,12 @@ module _ (t u : List ℕ) (rows : Rows t u) where
 
   belongs-kept : (root e : ℕ) → Belongs t root e → Belongs u root e
   unfolding rootOf
-  belongs-kept root e b = record { inside = rw (rows .count) (b .inside); owner = same-root e e ∙ b .owner }
+  belongs-kept root e b = record { inside = rw (rows .sameEntries) (b .inside); owner = same-root e e ∙ b .owner }
 
   pub good-kept : (s : Standing) → Good t s → Good u s
   good-kept s g =
       record {
-        rootInside = rw (rows .count) (g .rootInside);
+        rootInside = rw (rows .sameEntries) (g .rootInside);
         root = ap isRoot (rows .alike (s .root)) ∙ g .root;
         directory = belongs-kept (s .root) (s .directory) (g .directory);
         isDirectory = ap isDirectory (rows .alike (s .directory)) ∙ g .isDirectory;

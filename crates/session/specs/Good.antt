@@ -26,6 +26,6 @@ pub record Good (t : List ℕ) (s : Standing) : Type 0 where
   pub root : isRoot (rowOf t (s .root)) ≡ true
   pub directory : Belongs t (s .root) (s .directory)
   pub isDirectory : isDirectory (rowOf t (s .directory)) ≡ true
-  pub file : 1 ≤ s .file → GoodFile t (s .root) (s .file) (s .number)
-  pub unnumbered : s .file ≡ none → s .number ≡ none
+  pub file : 1 ≤ s .file → GoodFile t (s .root) (s .file) (s .«record_number»)
+  pub unnumbered : s .file ≡ none → s .«record_number» ≡ none
   pub valid : s .valid ≤ mostWaiting

@@ -24,9 +24,9 @@ startStanding application =
       root = application;
       directory = application;
       file = none;
-      number = none;
+      «record_number» = none;
       valid = 0;
-      kept = 0;
+      word = 0;
     }
 
 -- "A session starts with 255 waiting bytes of zero"
@@ -48,9 +48,9 @@ waits s valid word =
       root = s .root;
       directory = s .directory;
       file = s .file;
-      number = s .number;
+      «record_number» = s .«record_number»;
       valid = valid;
-      kept = word;
+      word = word;
     }
 
 -- "the next command drops what waited"
@@ -64,9 +64,9 @@ atRecord s number =
       root = s .root;
       directory = s .directory;
       file = s .file;
-      number = number;
+      «record_number» = number;
       valid = s .valid;
-      kept = s .kept;
+      word = s .word;
     }
 
 -- directory, file and record number move
@@ -76,9 +76,9 @@ moved s directory file number =
       root = s .root;
       directory = directory;
       file = file;
-      number = number;
+      «record_number» = number;
       valid = s .valid;
-      kept = s .kept;
+      word = s .word;
     }
 
 -- "A directory becomes current with no file; a file makes its parent the directory. Record number: 1 for cyclic, else none."

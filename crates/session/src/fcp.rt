@@ -5,13 +5,13 @@ ghost use mathlib.Core.Bool.{true};
 ghost use Prim.Native.Nat.{_≤_};
 ghost use lib.ListN.{length};
 ghost use Rattle.octets.specs.Bytes.{overwrite};
-ghost use Rattle.card.specs.Row.{Narrow, isDirectory, isTransparent};
+ghost use Rattle.card.specs.Row.{RowFits, isDirectory, isTransparent};
 ghost use Rattle.session.specs.Fcp.{FcpFits};
 ghost use Rattle.session.specs.Fcp as spec;
 
 // Returns the FCP of a directory.
 fn of_directory(r: Row) -> [u8; 13]
-    requires { ⌜ (isDirectory r ≡ true) × Narrow r ⌝ }
+    requires { ⌜ (isDirectory r ≡ true) × RowFits r ⌝ }
     ensures { λ b. ⌜ b ≡ spec.fcp r ⌝ }
 {
     [
@@ -33,7 +33,7 @@ fn of_directory(r: Row) -> [u8; 13]
 
 // Returns the FCP of a transparent file.
 fn of_transparent(r: Row) -> [u8; 17]
-    requires { ⌜ (isTransparent r ≡ true) × Narrow r ⌝ }
+    requires { ⌜ (isTransparent r ≡ true) × RowFits r ⌝ }
     ensures { λ b. ⌜ b ≡ spec.fcp r ⌝ }
 {
     [
@@ -70,7 +70,7 @@ fn record_descriptor(r: Row) -> u8
 
 // Returns the FCP of a record file.
 fn of_records(r: Row) -> [u8; 20]
-    requires { ⌜ (5 ≤ r .kind) × (r .kind ≤ 6) × FcpFits r × Narrow r ⌝ }
+    requires { ⌜ (5 ≤ r .kind) × (r .kind ≤ 6) × FcpFits r × RowFits r ⌝ }
     ensures { λ b. ⌜ b ≡ spec.fcp r ⌝ }
 {
     let count = card::records::record_count(r);
@@ -100,7 +100,7 @@ fn of_records(r: Row) -> [u8; 20]
 
 // Puts the FCP of an entry of a sound table at the start of `bytes`, and returns its length.
 pub fn put_fcp(bytes: &mut [u8], r: Row) -> usize
-    requires { ⌜ (20 ≤ length (now bytes)) × FcpFits r × Narrow r ⌝ }
+    requires { ⌜ (20 ≤ length (now bytes)) × FcpFits r × RowFits r ⌝ }
     ensures { λ n. ⌜ (now (bytes .exit) ≡ overwrite (now (bytes .entry)) 0 (spec.fcp r)) × (n ≡ length (spec.fcp r)) × (n ≤ 20) ⌝ }
 {
     if card::rules::is_directory(r) {

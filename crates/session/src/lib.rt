@@ -13,9 +13,9 @@ pub struct Standing {
     pub root: u8,
     pub directory: u8,
     pub file: u8,
-    pub number: u8,
+    pub record_number: u8,
     pub valid: u8,
-    pub kept: u16,
+    pub word: u16,
 }
 
 // "One session's directory, file, record number and waiting bytes": where a script stands, and 255 waiting bytes, of which
@@ -35,9 +35,9 @@ pub fn start(application: usize) -> Session
         root,
         directory: root,
         file: 0,
-        number: 0,
+        record_number: 0,
         valid: 0,
-        kept: 0,
+        word: 0,
     };
     Session {
         standing,
@@ -52,7 +52,7 @@ pub fn waits(s: Standing, valid: usize, word: usize) -> Standing
 {
     let mut next = s;
     next.valid = valid as u8;
-    next.kept = word as u16;
+    next.word = word as u16;
     next
 }
 
@@ -69,7 +69,7 @@ pub fn at_record(s: Standing, number: usize) -> Standing
     ensures { λ r. ⌜ r ≡ spec.atRecord s number ⌝ }
 {
     let mut next = s;
-    next.number = number as u8;
+    next.record_number = number as u8;
     next
 }
 
@@ -81,7 +81,7 @@ fn moved(s: Standing, directory: usize, file: usize, number: u8) -> Standing
     let mut next = s;
     next.directory = directory as u8;
     next.file = file as u8;
-    next.number = number;
+    next.record_number = number;
     next
 }
 

@@ -16,8 +16,8 @@ returns-2 : tie.Need-returns-2
 unfolding recordsSound pick
 returns-2 c = rw (ne-eqb _ _ (c .before .if1 .left), lt-leb 1 (c .before .before .before .args .r .«record_length») (omega arith))
 
-div-count : tie.Need-div-count
-div-count c = search needs
+div-records : tie.Need-div-records
+div-records c = search needs
 
 rem-result : tie.Need-rem-result
 rem-result c = search needs
@@ -27,4 +27,4 @@ unfolding recordsSound pick
 returns-3 c = rw (ne-eqb _ _ (c .before .before .before .if1 .left), le-leb 1 (c .before .before .before .before .before .args .r .«record_length») (omega arith))
 
 pub records-sound-spec : {M : Type 1} → statement M
-records-sound-spec = tie.close (tie.spec returns returns-2 div-count rem-result returns-3)
+records-sound-spec = tie.close (tie.spec returns returns-2 div-records rem-result returns-3)

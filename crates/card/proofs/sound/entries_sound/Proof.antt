@@ -17,8 +17,8 @@ Inv-loop table files n e₀ e = (e ≤ n) × (allBelow e (λ k. entrySound files
 abbrev μ-loop : tie.MeasureT-loop
 μ-loop table files n e₀ e = n - e
 
-count-requires : tie.Need-count-requires Inv-loop μ-loop
-count-requires c κs = search needs
+entries-requires : tie.Need-entries-requires Inv-loop μ-loop
+entries-requires c κs = search needs
 
 loop-holds : tie.Need-loop-holds Inv-loop μ-loop
 loop-holds c = (omega arith, all-none _)
@@ -49,7 +49,7 @@ entries-sound-spec =
     (tie.spec
     Inv-loop
     μ-loop
-    count-requires
+    entries-requires
     loop-holds
     entry-sound-requires
     returns

@@ -17,8 +17,8 @@ Inv-loop table n e₀ e = (e ≤ n) × (allBelow e (λ k. allBelow k (λ d. pair
 abbrev μ-loop : tie.MeasureT-loop
 μ-loop table n e₀ e = n - e
 
-count-requires : tie.Need-count-requires Inv-loop μ-loop
-count-requires c κs = search needs
+entries-requires : tie.Need-entries-requires Inv-loop μ-loop
+entries-requires c κs = search needs
 
 loop-holds : tie.Need-loop-holds Inv-loop μ-loop
 loop-holds c = (omega arith, all-none _)
@@ -52,7 +52,7 @@ pairs-sound-spec =
     (tie.spec
     Inv-loop
     μ-loop
-    count-requires
+    entries-requires
     loop-holds
     row-at-requires
     earlier-sound-requires

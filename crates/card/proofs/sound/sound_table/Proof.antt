@@ -25,8 +25,8 @@ unsound s h = sym (refuted _ h)
 returns : tie.Need-returns
 returns c = unsound (c .before .before .before) (λ s. let h = whole-entries _ _ s in omega arith)
 
-count-requires : tie.Need-count-requires
-count-requires c κs = search needs
+entries-requires : tie.Need-entries-requires
+entries-requires c κs = search needs
 
 returns-2 : tie.Need-returns-2
 returns-2 c = unsound (c .before .before .before .before .before) (λ s. let h = some-entries _ _ s in omega arith)
@@ -64,7 +64,7 @@ sound-table-spec =
     tie.close
     (tie.spec
     returns
-    count-requires
+    entries-requires
     returns-2
     returns-3
     returns-4

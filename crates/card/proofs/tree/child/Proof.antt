@@ -26,13 +26,13 @@ Inv-loop table directory only-df identifier n e₀ e = (e ≤ n) × (firstFrom (
 abbrev μ-loop : tie.MeasureT-loop
 μ-loop table directory only-df identifier n e₀ e = n - e
 
-count-requires : tie.Need-count-requires Inv-loop μ-loop
-count-requires c κs = search needs
+entries-requires : tie.Need-entries-requires Inv-loop μ-loop
+entries-requires c κs = search needs
 
 loop-holds : tie.Need-loop-holds Inv-loop μ-loop
 loop-holds c =
     let a = c .before .before .args in
-    let k : entries (a .table .now) ≡ c .count .result - 0 = omega arith in
+    let k : entries (a .table .now) ≡ c .entries .result - 0 = omega arith in
     (omega arith, ap (λ (n : ℕ). firstFrom n 0 (wanted (a .table .now) (a .directory) (a .only-df) (a .identifier))) k)
 
 row-at-requires : tie.Need-row-at-requires Inv-loop μ-loop
@@ -76,7 +76,7 @@ child-spec =
     (tie.spec
     Inv-loop
     μ-loop
-    count-requires
+    entries-requires
     loop-holds
     row-at-requires
     can-be-child-requires

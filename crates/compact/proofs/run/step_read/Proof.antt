@@ -20,7 +20,7 @@ use Rattle.compact.specs.Compact.{placeAfter, stepRead}
 use Rattle.compact.proofs.run.step_read.Statement.{statement}
 use Rattle.compact.proofs.run.step_read.Tie as tie
 
-told : (script : List ℕ) (domain : ℕ) (reading : Reading) (before : Step) (card : Card) {«data» : List ℕ} {st : State} → «data» ≡ part script (reading .from) (reading .count)
+told : (script : List ℕ) (domain : ℕ) (reading : Reading) (before : Step) (card : Card) {«data» : List ℕ} {st : State} → «data» ≡ part script (reading .from) (reading .size)
     → st ≡ stepped (stateOf before card) (commanded Compact domain (reading .command) «data» (before .session) 0 false card)
     → st ≡ stepRead script domain reading (stateOf before card)
 unfolding stepRead limited pick
@@ -82,7 +82,7 @@ returns c =
     let at-command = at-run-step .before .before .before .before .before .before in
     let s = start (at-command .before) in
     told (s .args .script .now) (s .args .domain) (s .args .reading) (s .args .before) (lent (s .args .table .now) (s .args .files .now) (s .args .journal .now))
-    (part-lent (s .args .script .now) (s .args .reading .from) (s .args .reading .count)) (at-run-step .run-step .ensures)
+    (part-lent (s .args .script .now) (s .args .reading .from) (s .args .reading .size)) (at-run-step .run-step .ensures)
 
 pub step-read-spec : {M : Type 1} → statement M
 step-read-spec =

@@ -60,10 +60,10 @@ abbrev start : tie.After-fifth → tie.Start
 start c = at-case c .before .before
 
 -- the command, with its case and its bytes, wherever its data lie
-told : (c : tie.After-fifth) {from count : ℕ}
+told : (c : tie.After-fifth) {from size : ℕ}
     → from ≡ pick (leb 3 (at-case c .case-by-size .result)) 5 4
-    → count ≡ pick (leb 3 (at-case c .case-by-size .result)) (byte (start c .args .capdu .now) 4) 0
-    → Told (start c .args .capdu .now) (read (at-case c .case-by-size .result) (at-wide c .wide .result) (at-wide2 c .wide2 .result) (at-wide3 c .wide3 .result) (c .before .wide4 .result) (c .fifth .result) from count)
+    → size ≡ pick (leb 3 (at-case c .case-by-size .result)) (byte (start c .args .capdu .now) 4) 0
+    → Told (start c .args .capdu .now) (read (at-case c .case-by-size .result) (at-wide c .wide .result) (at-wide2 c .wide2 .result) (at-wide3 c .wide3 .result) (c .before .wide4 .result) (c .fifth .result) from size)
 told c =
     command-told (start c .args .capdu .now) (λ i. at-case c .before .shared-slice-known .given i .fits) (start c .pre) (at-case c .case-by-size .ensures .0)
     (at-wide c .wide .ensures .0) (at-wide2 c .wide2 .ensures .0) (at-wide3 c .wide3 .ensures .0) (c .before .wide4 .ensures .0) (c .fifth .ensures .0)

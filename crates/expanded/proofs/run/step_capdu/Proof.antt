@@ -128,7 +128,7 @@ returns c =
     let n = rapduSize (dataCount (done .run-step .result .outcome)) in
     let w = gathered-within (k .result) (done .run-step .result) (s .args .before .kept) n (h .1) (s .pre .kept) (h .2) (g .ensures .2) in (
       stands (s .args .before) (lent (s .args .table .now) (s .args .files .now) (s .args .journal .now)) (s .args .out .now) (omega (arith, s .pre .kept, s .pre .room)) (s .args .definite) (s .args .domain) (s .args .capdu .now)
-          (r .result) (r .ensures .0) (k .result) (k .ensures) _ (part-lent (s .args .capdu .now) (r .result .from) (r .result .count))
+          (r .result) (r .ensures .0) (k .result) (k .ensures) _ (part-lent (s .args .capdu .now) (r .result .from) (r .result .size))
           (done .run-step .result) (after done) (done .run-step .ensures) n (sym (g .ensures .1)) (omega (arith, h .1, s .pre .room)) (g .ensures .0) (g .ensures .2),
       w .0,
       w .1,

@@ -28,7 +28,7 @@ add-at c = search needs
 add-at-2 : tie.Need-add-at-2
 add-at-2 c = search needs
 
-no-longer : (c : tie.After-tail-at) → entryBytes (c .tail-at .result .count) ≤ c .before .before .before .before .args .u
+no-longer : (c : tie.After-tail-at) → entryBytes (c .tail-at .result .size) ≤ c .before .before .before .before .args .u
 no-longer c = readable-fits _ _ (c .tail-at .ensures .0) (c .before .before .before .before .pre .1)
 
 sub-at : tie.Need-sub-at

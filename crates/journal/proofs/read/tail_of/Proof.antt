@@ -19,7 +19,7 @@ num-at-requires-2 c κs = search needs
 returns : tie.Need-returns
 unfolding tailIn
 returns c = (
-  λ i. record { kind = (c .before .before .wide .ensures .0) i; place = (c .before .num-at .ensures .0) i; count = (c .num-at2 .ensures .0) i },
+  λ i. record { kind = (c .before .before .wide .ensures .0) i; place = (c .before .num-at .ensures .0) i; size = (c .num-at2 .ensures .0) i },
   c .before .before .wide .ensures .1,
   c .before .num-at .ensures .1,
   c .num-at2 .ensures .1,

@@ -10,8 +10,8 @@ use Rattle.journal.specs.Sound.{tableByteSound, tablePlaceSound}
 use Rattle.journal.proofs.sound.table_place_sound.Statement.{statement}
 use Rattle.journal.proofs.sound.table_place_sound.Tie as tie
 
-count-requires : tie.Need-count-requires
-count-requires c κs = search needs
+entries-requires : tie.Need-entries-requires
+entries-requires c κs = search needs
 
 returns : tie.Need-returns
 unfolding tablePlaceSound
@@ -32,4 +32,4 @@ returns-2 c =
 
 pub table-place-sound-spec : {M : Type 1} → statement M
 table-place-sound-spec =
-    tie.close (tie.spec count-requires returns row-at-requires table-byte-sound-requires returns-2)
+    tie.close (tie.spec entries-requires returns row-at-requires table-byte-sound-requires returns-2)

@@ -26,8 +26,8 @@ number-after-requires c κs = search needs
 at-record-requires : tie.Need-at-record-requires
 at-record-requires c κs =
     let a = c .before .before .before .before .before .args in
-    let n : a .s .number < 256 = search needs in
-    rw (c .number-after .ensures) (after-small (a .c .p2) (a .s .number) (c .before .before .before .record-of .result) n (omega (arith, c .before .before .before .record-of .ensures, c .before .before .before .before .before .pre)))
+    let n : a .s .«record_number» < 256 = search needs in
+    rw (c .number-after .ensures) (after-small (a .c .p2) (a .s .«record_number») (c .before .before .before .record-of .result) n (omega (arith, c .before .before .before .record-of .ensures, c .before .before .before .before .before .pre)))
 
 handed-requires : tie.Need-handed-requires
 handed-requires c κs = search needs

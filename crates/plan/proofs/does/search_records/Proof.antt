@@ -50,7 +50,7 @@ module _ (c : tie.After-search) where
   unfolding plans.search
   as-named f row content =
       let a = start .args in
-      λ i. searched (a .format) (a .s) (foundRecords (sym row i) (sym content i) (a .c .p2) (a .«data» .now) ((c .before .before .record-of .ensures ∙ ap (namedBy (a .c) (a .s .number)) (sym row)) i))
+      λ i. searched (a .format) (a .s) (foundRecords (sym row i) (sym content i) (a .c .p2) (a .«data» .now) ((c .before .before .record-of .ensures ∙ ap (namedBy (a .c) (a .s .«record_number»)) (sym row)) i))
 
 returns : tie.Need-returns
 unfolding writesOf

@@ -55,9 +55,9 @@ number-after-requires c κs = search needs
 at-record-requires-2 : tie.Need-at-record-requires-2
 at-record-requires-2 c κs =
     let a = c .before .before .before .before .before .before .args in
-    let n : a .s .number < 256 = search needs in
+    let n : a .s .«record_number» < 256 = search needs in
     let h = c .before .before .before .before .before .before .pre .4 (ne-eqb _ _ (c .before .before .before .before .if1 .left)) in
-    rw (c .number-after .ensures) (after-small (a .c .p2) (a .s .number) (c .before .before .record-of .result) n (omega (arith, c .before .before .record-of .ensures, h .1, c .before .before .before .before .before .before .pre .3)))
+    rw (c .number-after .ensures) (after-small (a .c .p2) (a .s .«record_number») (c .before .before .record-of .result) n (omega (arith, c .before .before .record-of .ensures, h .1, c .before .before .before .before .before .before .pre .3)))
 
 done-requires-2 : tie.Need-done-requires-2
 done-requires-2 c κs = search needs
