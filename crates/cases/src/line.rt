@@ -1,6 +1,7 @@
-// The line of a case.
+// The line that is printed of a case.
+use crate::input::Asked;
+use crate::input::case_of;
 use lines::digits::decode;
-use lines::digits::is_script;
 use lines::put::put_bytes;
 use lines::put::put_number;
 use lines::worked::worked_files;
@@ -12,21 +13,6 @@ ghost use lib.ListN.{length};
 ghost use Rattle.octets.specs.Bytes.{overwrite};
 ghost use Rattle.journal.specs.Entries.{usedBytes};
 ghost use Rattle.cases.specs.Cases as spec;
-
-// Whether `digits` are the hex digits of at most `n` bytes.
-fn hex_bytes(n: usize, digits: &[u8]) -> bool
-    requires { ⌜ n ≤ 2048 ⌝ }
-    ensures { λ b. ⌜ b ≡ spec.hexBytes n (now (digits .entry)) ⌝ }
-{
-    (digits.len() <= 2 * n) & is_script(digits)
-}
-
-// Whether label, journal and script have the shape of a case.
-pub fn is_case(label: &[u8], journal: &[u8], script: &[u8]) -> bool
-    ensures { λ b. ⌜ b ≡ spec.isCase (now (label .entry)) (now (journal .entry)) (now (script .entry)) ⌝ }
-{
-    (label.len() <= 64) & (hex_bytes(2048, journal) & hex_bytes(1024, script))
-}
 
 // Puts a label and four values at the start of `out`. Returns how many bytes they have.
 fn put_labelled(
@@ -98,7 +84,7 @@ fn put_run(
 }
 
 // Puts the line of a case at the start of `out`. Returns how many bytes it has.
-pub fn put_case(
+fn put_case(
     out: &mut [u8],
     label: &[u8],
     application: usize,
@@ -122,5 +108,31 @@ pub fn put_case(
         format,
         &mut journal_bytes,
         &script_bytes[..n],
+    )
+}
+
+// Puts what is printed of a line at the start of `out`: the line of its case, or that it has not the shape of one. Returns how many
+// bytes it has.
+pub fn put_line(out: &mut [u8], line: &[u8]) -> usize
+    requires { ⌜ spec.mostInLine ≤ length (now out) ⌝ }
+    ensures { λ r. ⌜ (now (out .exit) ≡ overwrite (now (out .entry)) 0 (spec.printed (now (line .entry)))) × (r ≡ length (spec.printed (now (line .entry)))) × (r ≤ spec.mostInLine) ⌝ }
+{
+    let Asked::Run(case) = case_of(line) else {
+        octets::copy(out, 0, b"case=bad\n");
+        return 9;
+    };
+    let label = case.label;
+    let journal = case.journal;
+    let journal_end = case.journal_end;
+    let script = case.script;
+    let script_end = case.script_end;
+    put_case(
+        out,
+        &line[..label],
+        case.application,
+        case.domain,
+        case.format,
+        &line[journal..journal_end],
+        &line[script..script_end],
     )
 }

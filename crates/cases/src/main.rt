@@ -1,39 +1,41 @@
-// The program of the cases: it runs each on the worked card and prints its line.
+// The program of the cases: it runs the case of each line that it reads on the worked card, and prints its line.
+mod input;
 mod line;
-mod list;
 
-// The bytes that a line has at most.
+use lines::values::value_end;
+
+// The bytes that are read at most.
+const MOST_READ: usize = 32768;
+
+// The bytes that a printed line has at most.
 const MOST_IN_LINE: usize = 6288;
 
-// Prints the line of a case, or that it has not the shape of one.
-fn show(label: &[u8], application: usize, domain: u8, format: u8, journal: &[u8], script: &[u8]) {
-    if !line::is_case(label, journal, script) {
-        io::write_all(libc::STDOUT_FILENO, b"case=bad\n");
+// Prints what there is of a line; nothing where it is empty, or a note, which begins with #.
+fn show(line: &[u8]) {
+    if line.len() == 0 {
+        return;
+    }
+    if line[0] == b'#' {
         return;
     }
     let mut out = [0u8; MOST_IN_LINE];
-    let n = line::put_case(
-        &mut out,
-        label,
-        application,
-        domain,
-        format,
-        journal,
-        script,
-    );
+    let n = line::put_line(&mut out, line);
     io::write_all(libc::STDOUT_FILENO, &out[..n]);
 }
 
-// Prints the cases in their order.
+// Prints what there is of each line.
+fn show_lines(input: &[u8]) {
+    let mut at: usize = 0;
+    while at < input.len() {
+        let end = value_end(input, at, b'\n');
+        show(&input[at..end]);
+        at = end + 1;
+    }
+}
+
+// Reads standard input, and prints what there is of each line.
 fn main() {
-    list::paper();
-    list::soundness();
-    list::templates();
-    list::compact();
-    list::selects();
-    list::records();
-    list::changes();
-    list::items();
-    list::sizes();
-    list::arguments();
+    let mut input = [0u8; MOST_READ];
+    let n = io::read_full(libc::STDIN_FILENO, &mut input);
+    show_lines(&input[..n]);
 }

@@ -3,3 +3,4 @@ pub mod Numbers
 pub mod Hex
 pub mod Decimal
 pub mod Answers
+pub mod Reading

@@ -1,4 +1,5 @@
-// What the programs print, and the worked card.
+// What the programs read and print, and the worked card.
 pub mod digits;
 pub mod put;
+pub mod values;
 pub mod worked;

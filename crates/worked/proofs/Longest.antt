@@ -20,13 +20,15 @@ use Rattle.lines.specs.declared.digits.Number.{Number}
 use Rattle.lines.specs.declared.digits.Number.the-variants as number
 use Rattle.lines.specs.Digits.{ascii, numberOf, isScript}
 use Rattle.lines.proofs.Hex.{script-short}
-use Rattle.worked.specs.declared.input.Line.{Line}
-use Rattle.worked.specs.declared.input.Line.the-variants as line
-use Rattle.worked.specs.declared.input.Field.{Field}
-use Rattle.worked.specs.declared.input.Field.the-variants as field
+use Rattle.lines.specs.declared.values.Value.{Value}
+use Rattle.lines.specs.declared.values.Value.the-variants as value
+use Rattle.lines.specs.declared.values.Field.{Field}
+use Rattle.lines.specs.declared.values.Field.the-variants as field
+use Rattle.lines.specs.Named.{lineFeed}
+use Rattle.lines.specs.Values.{valueEnd, valueAt, before, numberIn, numberAt, then}
 use Rattle.worked.specs.declared.input.Input.{Input}
 use Rattle.worked.specs.declared.input.Input.the-variants.{Run, Bad}
-use Rattle.worked.specs.Input.{lineEnd, lineAt, before, numberIn, numberAt, scriptIn, scriptAt, then, runOf, inputOf}
+use Rattle.worked.specs.Input.{scriptIn, scriptAt, runOf, inputOf}
 use Rattle.worked.specs.Printed.{printed, badLine}
 use Rattle.worked.proofs.Shape.{printed-bad}
 
@@ -43,7 +45,7 @@ before-by k place number.Bad h = tt
 module _ (bs : List ℕ) where
   -- a number of at most `most` digits
   module _ (base least most : ℕ) where
-    number-in-by : (from to : ℕ) → NextBy (from + most + 1) (numberIn bs base least most (line.Value from to))
+    number-in-by : (from to : ℕ) → NextBy (from + most + 1) (numberIn bs base least most (value.At from to))
     unfolding numberIn
     number-in-by from to =
         let P : Field → Type 0 = NextBy (from + most + 1) in
@@ -51,21 +53,21 @@ module _ (bs : List ℕ) where
         (λ _. on-pick P (ltb most (to - from)) _ _ (λ _. tt)
         (λ few. before-by _ (to + 1) (numberOf base (part bs from (to - from))) (omega (arith, ltb-false most (to - from) few))))
 
-    number-by : (at : ℕ) (name : List ℕ) → NextBy (at + length name + most + 1) (numberAt bs at name base least most)
-    unfolding numberAt numberIn lineAt
+    number-by : (at : ℕ) (name : List ℕ) → NextBy (at + length name + most + 1) (numberAt bs at name lineFeed base least most)
+    unfolding numberAt numberIn valueAt
     number-by at name =
         on-pick (λ l. NextBy (at + length name + most + 1) (numberIn bs base least most l)) (startsWith (drop at bs) name) _ _
-        (λ _. number-in-by (at + length name) (lineEnd bs (at + length name))) (λ _. tt)
+        (λ _. number-in-by (at + length name) (valueEnd lineFeed bs (at + length name))) (λ _. tt)
 
   -- where the script's digits were read, the input ends at the place k or before it
-  abbrev EndBy : ℕ → Line → Type 0
-  EndBy k (line.Value from to) = length bs ≤ k
-  EndBy k line.Bad = Unit
+  abbrev EndBy : ℕ → Value → Type 0
+  EndBy k (value.At from to) = length bs ≤ k
+  EndBy k value.Bad = Unit
 
-  script-in-by : (from to : ℕ) → EndBy (from + 16384 + 1) (scriptIn bs (line.Value from to))
+  script-in-by : (from to : ℕ) → EndBy (from + 16384 + 1) (scriptIn bs (value.At from to))
   unfolding scriptIn
   script-in-by from to =
-      let P : Line → Type 0 = EndBy (from + 16384 + 1) in
+      let P : Value → Type 0 = EndBy (from + 16384 + 1) in
       on-pick P (ltb (to + 1) (length bs)) _ _ (λ _. tt)
       (λ last. on-pick P (isScript (part bs from (to - from))) _ _
       (λ script.
@@ -74,25 +76,25 @@ module _ (bs : List ℕ) where
       (λ _. tt))
 
   script-by : (at : ℕ) → EndBy (at + 7 + 16384 + 1) (scriptAt bs at)
-  unfolding scriptAt scriptIn lineAt ascii
+  unfolding scriptAt scriptIn valueAt ascii
   script-by at =
       on-pick (λ l. EndBy (at + 7 + 16384 + 1) (scriptIn bs l)) (startsWith (drop at bs) (ascii "script=")) _ _
-      (λ _. script-in-by (at + 7) (lineEnd bs (at + 7))) (λ _. tt)
+      (λ _. script-in-by (at + 7) (valueEnd lineFeed bs (at + 7))) (λ _. tt)
 
   -- an input that asks for a run
   abbrev Short : Input → Type 0
   Short (Run call) = length bs ≤ 16427
   Short Bad = Unit
 
-  then-short : {k : ℕ} (f : Field) (g : ℕ → ℕ → Input) → NextBy k f → ((n next : ℕ) → next ≤ k → Short (g n next)) → Short (then f g)
+  then-short : {k : ℕ} (f : Field) (g : ℕ → ℕ → Input) → NextBy k f → ((n next : ℕ) → next ≤ k → Short (g n next)) → Short (then Bad f g)
   unfolding then
   then-short (field.Value n next) g h go = go n next h
   then-short field.Bad g h go = tt
 
-  run-short : {k : ℕ} (application domain format : ℕ) (l : Line) → EndBy k l → k ≤ 16427 → Short (runOf application domain format l)
+  run-short : {k : ℕ} (application domain format : ℕ) (l : Value) → EndBy k l → k ≤ 16427 → Short (runOf application domain format l)
   unfolding runOf
-  run-short application domain format (line.Value from to) h e = omega arith
-  run-short application domain format line.Bad h e = tt
+  run-short application domain format (value.At from to) h e = omega arith
+  run-short application domain format value.Bad h e = tt
 
   longest : Short (inputOf bs)
   unfolding inputOf ascii

@@ -5,8 +5,9 @@
 -- the input is what `script_at` promises. Assumes nothing.
 use mathlib.Core.Path.{sym, _∙_}
 use Rattle.lines.specs.Digits.{ascii}
-use Rattle.worked.specs.Input.{inputOf, then, runOf, ScriptFits, InputFits}
-use Rattle.worked.proofs.Reading.{field-small}
+use Rattle.lines.specs.Values.{then}
+use Rattle.worked.specs.Input.{inputOf, runOf, ScriptFits, InputFits}
+use Rattle.lines.proofs.Reading.{field-small}
 use borrow.Author.Needs.{needs}
 use native.Mathlib.Omega.{arith}
 use Rattle.worked.proofs.input.input_of.Statement.{statement}

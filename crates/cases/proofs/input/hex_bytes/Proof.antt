@@ -1,8 +1,8 @@
--- `cases::line::hex_bytes` meets its contract: the tests are those of `hexBytes`. Assumes nothing.
+-- `cases::input::hex_bytes` meets its contract: the tests are those of `hexBytes`. Assumes nothing.
 use Rattle.cases.specs.Cases.{hexBytes}
 use borrow.Author.Needs.{needs}
-use Rattle.cases.proofs.line.hex_bytes.Statement.{statement}
-use Rattle.cases.proofs.line.hex_bytes.Tie as tie
+use Rattle.cases.proofs.input.hex_bytes.Statement.{statement}
+use Rattle.cases.proofs.input.hex_bytes.Tie as tie
 
 mul-result : tie.Need-mul-result
 mul-result c = search needs
