@@ -61,7 +61,15 @@ pub fn case_of(line: &[u8]) -> Asked
     if LONGEST_LABEL < label {
         return Asked::Bad;
     }
-    let Field::Value(application, second) = number_at(line, label, b": application=", b' ', 10, 1, 3) else {
+    let Field::Value(application, second) = number_at(
+        line,
+        label,
+        b": application=",
+        b' ',
+        10,
+        1,
+        3,
+    ) else {
         return Asked::Bad;
     };
     let Field::Value(domain, third) = number_at(line, second, b"domain=", b' ', 16, 2, 2) else {

@@ -177,14 +177,15 @@ returns-7 c =
     let at-application = at-number-at2 .before .before .before in
     let at-number-at = at-application .before .before in
     let at-if1 = at-number-at .before .before in
-    let at-value-end = at-if1 .before in
-    (behind-label _ (at-value-end .value-end .ensures .0) (at-if1 .if1 .left) (rw (sym (at-number-at .number-at .ensures .0) ∙ at-application .application .given .1, sym (at-number-at2 .number-at2 .ensures .0) ∙ at-domain .domain .given .1, sym (at-number-at3 .number-at3 .ensures .0) ∙ at-format .format .given .1, sym (at-digits-at .digits-at .ensures .0) ∙ at-journal .journal .given .1, sym (at-digits-at2 .digits-at2 .ensures .0) ∙ at-script .script .given .1)),
-    record {
-      label = at-if1 .if1 .left;
-      labelled = at-value-end .value-end .ensures .2;
-      journal = digits-fit _ _ _ _ (at-journal .journal .given .1) (at-digits-at .digits-at .ensures .1);
-      script = digits-fit _ _ _ _ (at-script .script .given .1) (at-digits-at2 .digits-at2 .ensures .1);
-    })
+    let at-value-end = at-if1 .before in (
+      behind-label _ (at-value-end .value-end .ensures .0) (at-if1 .if1 .left) (rw (sym (at-number-at .number-at .ensures .0) ∙ at-application .application .given .1, sym (at-number-at2 .number-at2 .ensures .0) ∙ at-domain .domain .given .1, sym (at-number-at3 .number-at3 .ensures .0) ∙ at-format .format .given .1, sym (at-digits-at .digits-at .ensures .0) ∙ at-journal .journal .given .1, sym (at-digits-at2 .digits-at2 .ensures .0) ∙ at-script .script .given .1)),
+      record {
+        label = at-if1 .if1 .left;
+        labelled = at-value-end .value-end .ensures .2;
+        journal = digits-fit _ _ _ _ (at-journal .journal .given .1) (at-digits-at .digits-at .ensures .1);
+        script = digits-fit _ _ _ _ (at-script .script .given .1) (at-digits-at2 .digits-at2 .ensures .1);
+      },
+    )
 
 pub case-of-spec : {M : Type 1} → statement M
 case-of-spec =
