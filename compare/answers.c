@@ -1,8 +1,6 @@
 /* Which command gave which word: read from the script and its answer side by side. */
 #include "compare.h"
 
-#include "rfm.h"
-
 /* Notes a compact answer's word with the command that gave it, which is the last one counted. */
 static bool note_compact(const struct script *script, const uint8_t *response, uint32_t count)
 {

@@ -8,6 +8,8 @@
 #include <stddef.h>
 #include <stdint.h>
 
+#include "rfm.h"
+
 /* ---- The lent card ---- */
 
 enum {
@@ -112,6 +114,14 @@ struct program {
     run_call *run;
     card_call *take_back, *confirm;
 };
+
+/* rfm_confirm as such a call: it is lent table and files to be read only. */
+static inline uint64_t library_confirm(uint8_t *table, size_t table_length, uint8_t *files,
+                                       size_t files_length, uint8_t *journal,
+                                       size_t journal_length)
+{
+    return rfm_confirm(table, table_length, files, files_length, journal, journal_length);
+}
 
 struct call {
     enum call_kind kind;

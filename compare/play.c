@@ -4,10 +4,9 @@
 
 #include <string.h>
 
-#include "rfm.h"
 #include "second.h"
 
-static const struct program library = {rfm_run, rfm_take_back, rfm_confirm};
+static const struct program library = {rfm_run, rfm_take_back, library_confirm};
 static const struct program second = {second_run, second_take_back, second_confirm};
 
 /* The answers to the calls of the history that was played last. */

@@ -4,8 +4,6 @@
 #include <stdio.h>
 #include <string.h>
 
-#include "rfm.h"
-
 /* Prints bytes in hexadecimal. */
 static void print_hex(const uint8_t *at, size_t length)
 {

@@ -14,7 +14,7 @@
 #include <string.h>
 #include <ucontext.h>
 
-static const struct program sides[] = {{rfm_run, rfm_take_back, rfm_confirm},
+static const struct program sides[] = {{rfm_run, rfm_take_back, library_confirm},
                                        {second_run, second_take_back, second_confirm}};
 
 /* ---- The rows ---- */
