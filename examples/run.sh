@@ -1,9 +1,13 @@
 #!/usr/bin/env bash
-# Builds the C example, runs it, and holds what it prints to fleet.expected.
+# Builds each C example, runs it, and holds what it prints to NAME.expected.
 set -euo pipefail
 cd "$(dirname "${BASH_SOURCE[0]}")"
 out=../target/examples
 mkdir -p "$out"
-../tools/build.sh "$out/fleet" fleet.c
-"$out/fleet" | tee "$out/fleet.stdout"
-diff fleet.expected "$out/fleet.stdout"
+for source in *.c; do
+    name=${source%.c}
+    ../tools/build.sh "$out/$name" "$source" ../include/rfm_text.c
+    echo "$name"
+    "$out/$name" | tee "$out/$name.stdout"
+    diff "$name.expected" "$out/$name.stdout"
+done
