@@ -129,6 +129,8 @@ bool note_answer(const struct call *call, const struct answer *answer)
     const unsigned number = RFM_NUMBER(answer->result);
     const uint32_t count = RFM_COUNT(answer->result), length = RFM_LENGTH(answer->result);
 
+    if (call->kind == RUN)
+        note_application(call->application);
     if (!note_number(call->kind, number))
         return false;
     if (call->kind != RUN || number != 0)

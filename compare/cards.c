@@ -150,14 +150,14 @@ static void fill_files(struct memory *files)
     }
 }
 
-/* Sets the margin behind a lent memory. */
+/* Sets the margin behind a memory. */
 static void mark_margin(struct memory *memory)
 {
     memset(memory->at + memory->length, MARGIN_BYTE, 2 * MARGIN);
 }
 
 /* Makes a sound card with so many entries and nothing on trial. One more entry lies behind the
- * table, where no call may look. */
+ * table, for one that is made longer. */
 void make_card(struct card *card, size_t entries)
 {
     const bool deep = one_in(3);

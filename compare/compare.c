@@ -15,6 +15,15 @@ static bool read_number(const char *text, unsigned long long *number)
     return end != text && *end == '\0';
 }
 
+/* Prints a difference, where it was found and the shortest history that shows it; answers 1. */
+static int show(const char *where, struct history *history, struct difference *difference)
+{
+    printf("compare: a difference %s\n", where);
+    shorten(history, difference);
+    print_history(history, difference);
+    return 1;
+}
+
 int main(int count, char **arguments)
 {
     static struct history history;
@@ -25,17 +34,18 @@ int main(int count, char **arguments)
         printf("compare SEED CALLS\n");
         return 3;
     }
+    if (!sweep(&history, &difference))
+        return show("in the sweep", &history, &difference);
     start_random(seed);
     for (; calls < wanted; calls += history.count, histories++) {
         if (!compare_history(&history, &difference)) {
-            printf("compare: a difference after %llu calls\n", calls + difference.call);
-            shorten(&history, &difference);
-            print_history(&history, &difference);
-            return 1;
+            char after[40];
+            snprintf(after, sizeof after, "after %llu calls", calls + difference.call);
+            return show(after, &history, &difference);
         }
     }
     const bool all_reached = print_coverage();
-    printf("compare: seed %llu, %llu calls in %llu histories, no difference\n", seed, calls,
-           histories);
+    printf("compare: the sweep; seed %llu, %llu calls in %llu histories, no difference\n", seed,
+           calls, histories);
     return all_reached ? 0 : 2;
 }

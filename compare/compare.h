@@ -34,8 +34,8 @@ enum { AT_SCRIPTS = 2 };
 enum { AT_PLACE = 2, AT_N = 4 };
 enum { MARK = 1, FILE_BYTES = 2, TABLE_BYTE = 3 };
 
-/* Bytes behind each lent memory that no call may change either. */
-enum { MARGIN = 16, MARGIN_BYTE = 0xA5 };
+/* Bytes behind each memory, for one that is made longer. */
+enum { MARGIN = ENTRY_SIZE, MARGIN_BYTE = 0xA5 };
 
 struct memory {
     size_t length;
@@ -129,12 +129,14 @@ struct call {
     uint8_t domain, format;
     struct script script;
     size_t response_length; /* at most LEAST_RESPONSE + SPARE */
+    unsigned pages;         /* a bit for each lent memory: its page is behind it */
 };
 
 struct answer {
     uint64_t result;
+    const char *outside; /* what was touched or changed that was not lent, or NULL */
     bool script_kept;
-    uint8_t response[LEAST_RESPONSE + SPARE + MARGIN];
+    uint8_t response[LEAST_RESPONSE + SPARE];
 };
 
 struct history {
@@ -176,16 +178,23 @@ enum style unwrap(const struct call *call, struct script *value);
 void wrap(struct script *script, enum style style, const struct script *value);
 
 /* ---- coverage.c, answers.c ---- */
+extern const char *const styles[STYLES];
+
 bool note_word(enum style style, uint8_t ins, unsigned word);
 bool note_bad_format(enum style style, unsigned code);
 void note_count(enum style style, uint32_t count);
 void note_struck(bool taken_back);
+void note_application(size_t application);
 bool note_number(enum call_kind kind, unsigned number);
 bool note_answer(const struct call *call, const struct answer *answer);
+void print_reached(unsigned long times);
 bool print_coverage(void);
 
-/* ---- histories.c, play.c ---- */
+/* ---- histories.c, sweep.c, play.c ---- */
+void turn_pages(struct history *history);
 bool compare_history(struct history *history, struct difference *difference);
+bool sweep(struct history *history, struct difference *difference);
+void print_sweep(void);
 
 /* Makes the next call of a history on the card as it is then. */
 typedef void call_maker(struct call *call, const struct card *now);

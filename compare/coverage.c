@@ -1,7 +1,7 @@
 /* What a run of the comparison must reach: every pair of instruction and status word that the
  * paper allows, in compact and in both templates of expanded, every call number, and the rest
  * named below. A pair that the paper does not allow is a failure too. */
-#include "compare.h"
+#include "lend.h"
 
 #include <stdio.h>
 
@@ -32,7 +32,7 @@ static const struct {
     {"C0", 0xC0, "c    .    .    c    .    b    .    .    .    b    .    .    .    b    .    .    b    e    ."},
     {"other", 0, ".    .    .    .    .    b    .    .    .    .    .    .    .    .    .    b    .    e    ."}};
 
-static const char *const styles[STYLES] = {"compact", "expanded, AA", "expanded, AE"};
+const char *const styles[STYLES] = {"compact", "expanded, AA", "expanded, AE"};
 
 /* Whether the paper allows a pair. */
 static bool allowed(enum style style, size_t row, size_t column)
@@ -50,15 +50,26 @@ static const struct {
                        [TAKE_BACK] = {"take-back", "yy.....y"},
                        [CONFIRM] = {"confirmation", "yy......"}};
 
-enum { CODES = 3, COUNTS = 4 };
+enum { CODES = 3, COUNTS = 4, APPLICATIONS = 5 };
 
 /* Counts that must be reached: none, where two bytes begin to be needed, and more. */
 static const char *const counts[COUNTS] = {"0", "127", "128", "129 and more"};
 
+/* Applications that must be reached, by the least of each. */
+static const struct {
+    size_t least;
+    const char *name;
+} applications[APPLICATIONS] = {{0, "0"},
+                                {1, "to 255"},
+                                {0x100, "to 2^32 - 1"},
+                                {(size_t)UINT32_MAX + 1, "to 2^64 - 2"},
+                                {SIZE_MAX, "2^64 - 1"}};
+
 /* How often each was reached. */
 static struct {
     unsigned long pairs[STYLES][ROWS][WORDS], numbers[CALL_KINDS][NUMBERS];
-    unsigned long codes[STYLES][CODES], counts[STYLES][COUNTS], taken_back, number_5;
+    unsigned long codes[STYLES][CODES], counts[STYLES][COUNTS], applications[APPLICATIONS];
+    unsigned long taken_back, number_5;
 } reached;
 
 /* Notes the word of a command; false if the paper does not allow the pair. */
@@ -103,6 +114,16 @@ void note_struck(bool taken_back)
         reached.number_5++;
 }
 
+/* Notes the application of a run. */
+void note_application(size_t application)
+{
+    size_t i = APPLICATIONS - 1;
+
+    while (application < applications[i].least)
+        i--;
+    reached.applications[i]++;
+}
+
 /* Notes a call's number; false if the call does not give it. */
 bool note_number(enum call_kind kind, unsigned number)
 {
@@ -115,7 +136,7 @@ bool note_number(enum call_kind kind, unsigned number)
 static size_t missing;
 
 /* Prints how often something was reached; where it never was, that is missing. */
-static void print_reached(unsigned long times)
+void print_reached(unsigned long times)
 {
     missing += times == 0;
     if (times == 0)
@@ -171,6 +192,8 @@ bool print_coverage(void)
     for (enum style style = COMPACT; style < STYLES; style++)
         print_pairs(style);
     print_numbers();
+    print_lent();
+    print_sweep();
     for (enum style style = COMPACT; style < STYLES; style++) {
         printf("\n%-12s", styles[style]);
         for (size_t i = style == COMPACT; i < COUNTS; i++) { /* compact has no empty script */
@@ -181,6 +204,11 @@ bool print_coverage(void)
             printf("  bad format %02zu:", code + 1);
             print_reached(reached.codes[style][code]);
         }
+    }
+    printf("\n%-12s", "application");
+    for (size_t i = 0; i < APPLICATIONS; i++) {
+        printf("  %s:", applications[i].name);
+        print_reached(reached.applications[i]);
     }
     printf("\nstruck out    taken back:");
     print_reached(reached.taken_back);

@@ -4,11 +4,13 @@
 /* One call in so many is a take-back, in the present history. */
 static uint32_t take_backs;
 
-/* An application: 0 or an ADF's entry number, or another number. */
+/* An application: 0 or an ADF's entry number, or another number, up to the largest. */
 static size_t some_application(const struct card *card, bool wrong)
 {
     size_t number = below((uint32_t)entries_of(card) + 1);
 
+    if (wrong && one_in(4))
+        return SIZE_MAX - (one_in(2) ? 0 : number);
     if (wrong)
         return one_in(2) ? number : number + ((size_t)1 << 8 * (1 + below(7)));
     while (number > 0 && (number == entries_of(card) || entry_of(card, number)[AT_KIND] != ADF))
@@ -83,11 +85,23 @@ static bool compare_damaged(struct history *history, struct difference *differen
     return play(history, NULL, difference);
 }
 
+/* Gives each call the sides on which its memories touch a page: all combinations by turns, from
+ * another one in each history. */
+void turn_pages(struct history *history)
+{
+    static unsigned turn;
+
+    turn++;
+    for (unsigned i = 0; i < MOST_CALLS; i++)
+        history->calls[i].pages = turn + i;
+}
+
 /* Makes a history, on a sound card or on a damaged one, and plays it. */
 bool compare_history(struct history *history, struct difference *difference)
 {
     static const uint32_t often[] = {2, 6, 30};
 
+    turn_pages(history);
     take_backs = often[below(3)];
     return one_in(3) ? compare_sound(history, difference) : compare_damaged(history, difference);
 }

@@ -1,6 +1,6 @@
 /* Plays a history on the library and on the second program, call by call, and once more on the
  * library with the struck-out calls left out. */
-#include "compare.h"
+#include "lend.h"
 
 #include <string.h>
 
@@ -16,11 +16,11 @@ static struct answer library_answers[MOST_CALLS], second_answers[MOST_CALLS];
 const struct answer *library_answer(size_t call) { return &library_answers[call]; }
 const struct answer *second_answer(size_t call) { return &second_answers[call]; }
 
-/* Copies a lent memory and its margin. */
+/* Copies a memory. */
 static void copy_memory(struct memory *to, const struct memory *from)
 {
     to->length = from->length;
-    memcpy(to->at, from->at, from->length + MARGIN);
+    copy(to->at, from->at, from->length);
 }
 
 /* Copies the three memories. */
@@ -29,45 +29,6 @@ static void copy_card(struct card *to, const struct card *from)
     copy_memory(&to->table, &from->table);
     copy_memory(&to->files, &from->files);
     copy_memory(&to->journal, &from->journal);
-}
-
-/* Fills response memory with a pattern. */
-static void fill_response(uint8_t *response)
-{
-    static uint8_t pattern[sizeof((struct answer *)0)->response];
-
-    if (pattern[0] == 0)
-        for (size_t i = 0; i < sizeof pattern; i++)
-            pattern[i] = (uint8_t)(i * 37 + 0x5A);
-    memcpy(response, pattern, sizeof pattern);
-}
-
-/* Makes one call of a program on a card, with the script and the response memory lent. */
-static void make_call(const struct program *program, struct card *card, const struct call *call,
-                      struct answer *answer)
-{
-    static struct script script;
-    struct memory *const t = &card->table, *const f = &card->files, *const j = &card->journal;
-
-    fill_response(answer->response);
-    answer->script_kept = true;
-    switch (call->kind) {
-    case RUN:
-        script.length = call->script.length;
-        memcpy(script.at, call->script.at, script.length);
-        answer->result = program->run(t->at, t->length, f->at, f->length, j->at, j->length,
-                                      call->application, call->domain, call->format, script.at,
-                                      script.length, answer->response, call->response_length);
-        answer->script_kept = memcmp(script.at, call->script.at, script.length) == 0;
-        break;
-    case TAKE_BACK:
-        answer->result =
-            program->take_back(t->at, t->length, f->at, f->length, j->at, j->length);
-        break;
-    default:
-        answer->result = program->confirm(t->at, t->length, f->at, f->length, j->at, j->length);
-        break;
-    }
 }
 
 /* ---- Comparing ---- */
@@ -83,7 +44,7 @@ static bool differ(struct difference *difference, const char *what, size_t place
     return false;
 }
 
-/* Whether two values are the same; if not, keeps the difference, as the next four do. */
+/* Whether two values are the same; if not, keeps the difference, as the next five do. */
 static bool same_value(const char *what, unsigned long library, unsigned long expected,
                        struct difference *difference)
 {
@@ -103,13 +64,24 @@ static bool same_bytes(const char *what, const uint8_t *library, const uint8_t *
     return differ(difference, what, place, library[place], expected[place]);
 }
 
+/* Whether neither call touched or changed what was not lent. */
+static bool kept_inside(const struct answer *library, const struct answer *expected,
+                        struct difference *difference)
+{
+    const char *what = library->outside != NULL ? library->outside : expected->outside;
+
+    return what == NULL ||
+           differ(difference, what, NO_PLACE, library->outside != NULL, expected->outside != NULL);
+}
+
 /* Compares number, count, length and the whole response memory; the script is as it was. */
 static bool same_answer(const struct answer *library, const struct answer *expected,
                         struct difference *difference)
 {
     const uint64_t a = library->result, b = expected->result;
 
-    return same_value("number", RFM_NUMBER(a), RFM_NUMBER(b), difference) &&
+    return kept_inside(library, expected, difference) &&
+           same_value("number", RFM_NUMBER(a), RFM_NUMBER(b), difference) &&
            same_value("count", RFM_COUNT(a), RFM_COUNT(b), difference) &&
            same_value("length", RFM_LENGTH(a), RFM_LENGTH(b), difference) &&
            same_bytes("response memory", library->response, expected->response,
@@ -117,11 +89,11 @@ static bool same_answer(const struct answer *library, const struct answer *expec
            same_value("script kept", library->script_kept, true, difference);
 }
 
-/* Compares a lent memory and its margin. */
+/* Compares a memory. */
 static bool same_memory(const char *what, const struct memory *a, const struct memory *b,
                         struct difference *difference)
 {
-    return same_bytes(what, a->at, b->at, a->length + MARGIN, difference);
+    return same_bytes(what, a->at, b->at, a->length, difference);
 }
 
 /* Compares the three memories. */
