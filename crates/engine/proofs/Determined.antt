@@ -67,19 +67,27 @@ module _ (κs : Lfts 5) (args : Dens κs run.ps) where
   pub run-determined : (a b : Answer) (e f : AtExit (endedOf 5 run.ps run.r) κs) → run-contract.Learnt κs args a e → run-contract.Learnt κs args b f → Same (result a e) (result b f)
   run-determined a b e f h k = agree Same itself {given = spec.run arguments card} (h .0) (k .0)
 
--- `engine::take_back` and `engine::confirm`, called with table, files and journal
+-- `engine::take_back`, called with table, files and journal
 module _ (κs : Lfts 3) (args : Dens κs take-back.ps) where
-  abbrev lent-card : Card
-  lent-card = lent (now (args .0)) (now (args .1 .0)) (now (args .1 .1 .0))
+  abbrev back-card : Card
+  back-card = lent (now (args .0)) (now (args .1 .0)) (now (args .1 .1 .0))
 
-  abbrev lent-result : Answer → AtExit (endedOf 3 take-back.ps take-back.r) κs → Result
-  lent-result a e = gives a (lent (now (e .0)) (now (e .1 .0)) (now (e .1 .1 .0))) []
+  abbrev back-result : Answer → AtExit (endedOf 3 take-back.ps take-back.r) κs → Result
+  back-result a e = gives a (lent (now (e .0)) (now (e .1 .0)) (now (e .1 .1 .0))) []
 
-  pub take-back-determined : (a b : Answer) (e f : AtExit (endedOf 3 take-back.ps take-back.r) κs) → take-back-contract.Learnt κs args a e → take-back-contract.Learnt κs args b f → Same (lent-result a e) (lent-result b f)
-  take-back-determined a b e f h k = agree Same itself {given = spec.takeBack lent-card} (h .0) (k .0)
+  pub take-back-determined : (a b : Answer) (e f : AtExit (endedOf 3 take-back.ps take-back.r) κs) → take-back-contract.Learnt κs args a e → take-back-contract.Learnt κs args b f → Same (back-result a e) (back-result b f)
+  take-back-determined a b e f h k = agree Same itself {given = spec.takeBack back-card} (h .0) (k .0)
 
-  pub confirm-determined : (a b : Answer) (e f : AtExit (endedOf 3 confirm.ps confirm.r) κs) → confirm-contract.Learnt κs args a e → confirm-contract.Learnt κs args b f → Same (lent-result a e) (lent-result b f)
-  confirm-determined a b e f h k = agree Same itself {given = spec.confirm lent-card} (h .0) (k .0)
+-- `engine::confirm`, called with table, files and journal, of which it is lent the journal alone to write
+module _ (κs : Lfts 3) (args : Dens κs confirm.ps) where
+  abbrev confirm-card : Card
+  confirm-card = lent (now (args .0)) (now (args .1 .0)) (now (args .1 .1 .0))
+
+  abbrev confirm-result : Answer → AtExit (endedOf 3 confirm.ps confirm.r) κs → Result
+  confirm-result a e = gives a (lent (now (args .0)) (now (args .1 .0)) (now (e .1 .1 .0))) []
+
+  pub confirm-determined : (a b : Answer) (e f : AtExit (endedOf 3 confirm.ps confirm.r) κs) → confirm-contract.Learnt κs args a e → confirm-contract.Learnt κs args b f → Same (confirm-result a e) (confirm-result b f)
+  confirm-determined a b e f h k = agree Same itself {given = spec.confirm confirm-card} (h .0) (k .0)
 
 -- `engine::numbers::start_of`, called with application, domain, format, script, room, table, files and journal: a response memory of
 -- that length is one of zeros

@@ -104,8 +104,8 @@ pub fn take_back(table: &mut [u8], files: &mut [u8], journal: &mut [u8]) -> Answ
 }
 
 // Confirms all scripts where no number refuses it. Returns the number, with length 0 and count 0.
-pub fn confirm(table: &mut [u8], files: &mut [u8], journal: &mut [u8]) -> Answer
-    ensures { λ a. ⌜ (spec.gives a (lent (now (table .exit)) (now (files .exit)) (now (journal .exit))) [] ≡ spec.confirm (lent (now (table .entry)) (now (files .entry)) (now (journal .entry)))) × spec.AnswerFits a ⌝ }
+pub fn confirm(table: &[u8], files: &[u8], journal: &mut [u8]) -> Answer
+    ensures { λ a. ⌜ (spec.gives a (lent (now (table .entry)) (now (files .entry)) (now (journal .exit))) [] ≡ spec.confirm (lent (now (table .entry)) (now (files .entry)) (now (journal .entry)))) × spec.AnswerFits a ⌝ }
 {
     if !journal::sound::sound_card(table, files, journal) {
         return numbered(1);

@@ -53,16 +53,24 @@ module _ (κs : Lfts 5) (args : Dens κs run.ps) where
   pub run-determined : (n k : ℕ) (e f : AtExit (endedOf 5 run.ps run.r) κs) → run-contract.Learnt κs args n e → run-contract.Learnt κs args k f → Same (result n e) (result k f)
   run-determined n k e f h g = agree Same itself {given = across (calls.run arguments card)} h g
 
--- `rfm_take_back` and `rfm_confirm`, called with table, files and journal
+-- `rfm_take_back`, called with table, files and journal
 module _ (κs : Lfts 3) (args : Dens κs take-back.ps) where
-  abbrev lent-card : Card
-  lent-card = lent (now (args .0)) (now (args .1 .0)) (now (args .1 .1 .0))
+  abbrev back-card : Card
+  back-card = lent (now (args .0)) (now (args .1 .0)) (now (args .1 .1 .0))
 
-  abbrev lent-result : ℕ → AtExit (endedOf 3 take-back.ps take-back.r) κs → Crossed
-  lent-result n e = crosses n (lent (now (e .0)) (now (e .1 .0)) (now (e .1 .1 .0))) []
+  abbrev back-result : ℕ → AtExit (endedOf 3 take-back.ps take-back.r) κs → Crossed
+  back-result n e = crosses n (lent (now (e .0)) (now (e .1 .0)) (now (e .1 .1 .0))) []
 
-  pub take-back-determined : (n k : ℕ) (e f : AtExit (endedOf 3 take-back.ps take-back.r) κs) → take-back-contract.Learnt κs args n e → take-back-contract.Learnt κs args k f → Same (lent-result n e) (lent-result k f)
-  take-back-determined n k e f h g = agree Same itself {given = across (calls.takeBack lent-card)} h g
+  pub take-back-determined : (n k : ℕ) (e f : AtExit (endedOf 3 take-back.ps take-back.r) κs) → take-back-contract.Learnt κs args n e → take-back-contract.Learnt κs args k f → Same (back-result n e) (back-result k f)
+  take-back-determined n k e f h g = agree Same itself {given = across (calls.takeBack back-card)} h g
 
-  pub confirm-determined : (n k : ℕ) (e f : AtExit (endedOf 3 confirm.ps confirm.r) κs) → confirm-contract.Learnt κs args n e → confirm-contract.Learnt κs args k f → Same (lent-result n e) (lent-result k f)
-  confirm-determined n k e f h g = agree Same itself {given = across (calls.confirm lent-card)} h g
+-- `rfm_confirm`, called with table, files and journal, of which it is lent the journal alone to write
+module _ (κs : Lfts 3) (args : Dens κs confirm.ps) where
+  abbrev confirm-card : Card
+  confirm-card = lent (now (args .0)) (now (args .1 .0)) (now (args .1 .1 .0))
+
+  abbrev confirm-result : ℕ → AtExit (endedOf 3 confirm.ps confirm.r) κs → Crossed
+  confirm-result n e = crosses n (lent (now (args .0)) (now (args .1 .0)) (now (e .1 .1 .0))) []
+
+  pub confirm-determined : (n k : ℕ) (e f : AtExit (endedOf 3 confirm.ps confirm.r) κs) → confirm-contract.Learnt κs args n e → confirm-contract.Learnt κs args k f → Same (confirm-result n e) (confirm-result k f)
+  confirm-determined n k e f h g = agree Same itself {given = across (calls.confirm confirm-card)} h g

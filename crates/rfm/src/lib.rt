@@ -52,8 +52,8 @@ pub extern "C" fn rfm_take_back(table: &mut [u8], files: &mut [u8], journal: &mu
 
 // Confirms all scripts. Returns the call's number, count and length in one number.
 #[no_mangle]
-pub extern "C" fn rfm_confirm(table: &mut [u8], files: &mut [u8], journal: &mut [u8]) -> u64
-    ensures { λ r. ⌜ crosses r (lent (now (table .exit)) (now (files .exit)) (now (journal .exit))) [] ≡ across (calls.confirm (lent (now (table .entry)) (now (files .entry)) (now (journal .entry)))) ⌝ }
+pub extern "C" fn rfm_confirm(table: &[u8], files: &[u8], journal: &mut [u8]) -> u64
+    ensures { λ r. ⌜ crosses r (lent (now (table .entry)) (now (files .entry)) (now (journal .exit))) [] ≡ across (calls.confirm (lent (now (table .entry)) (now (files .entry)) (now (journal .entry)))) ⌝ }
 {
     packed_answer(engine::confirm(table, files, journal))
 }

@@ -21,9 +21,7 @@ cardOf s = lent (s .args .table .now) (s .args .files .now) (s .args .journal .n
 
 -- where it starts, from where the card is looked at
 abbrev start : tie.After-sound-card → tie.Start
-start c =
-    let at-slices = c .before .before .before .before in
-    at-slices .before .before .before
+start c = c .before .before .before .before .before
 
 sound-card-requires : tie.Need-sound-card-requires
 sound-card-requires c κs = search needs
@@ -33,12 +31,6 @@ numbered-requires c κs = search needs
 
 same-length : tie.Need-same-length
 same-length c = search needs
-
-same-length-2 : tie.Need-same-length-2
-same-length-2 c = search needs
-
-same-length-3 : tie.Need-same-length-3
-same-length-3 c = search needs
 
 returns : tie.Need-returns
 returns c =
@@ -59,14 +51,8 @@ confirm-requires c κs =
 numbered-requires-2 : tie.Need-numbered-requires-2
 numbered-requires-2 c κs = search needs
 
-same-length-4 : tie.Need-same-length-4
-same-length-4 c = search needs
-
-same-length-5 : tie.Need-same-length-5
-same-length-5 c = search needs
-
-same-length-6 : tie.Need-same-length-6
-same-length-6 c = search needs
+same-length-2 : tie.Need-same-length-2
+same-length-2 c = search needs
 
 returns-2 : tie.Need-returns-2
 unfolding withJournal confirmed
@@ -84,12 +70,8 @@ confirm-spec =
     sound-card-requires
     numbered-requires
     same-length
-    same-length-2
-    same-length-3
     returns
     confirm-requires
     numbered-requires-2
-    same-length-4
-    same-length-5
-    same-length-6
+    same-length-2
     returns-2)

@@ -13,16 +13,9 @@ packed-answer-requires c κs = search needs
 same-length : tie.Need-same-length
 same-length c = search needs
 
-same-length-2 : tie.Need-same-length-2
-same-length-2 c = search needs
-
-same-length-3 : tie.Need-same-length-3
-same-length-3 c = search needs
-
 returns : tie.Need-returns
 returns c =
-    let to-confirm = c .before .before .before .before .before .before in
-    let at-confirm = to-confirm .before in
+    let at-confirm = c .before .before .before in
     crossing (at-confirm .confirm .result) _ _ _ _ (at-confirm .confirm .ensures .0) (c .packed-answer .ensures)
 
 pub rfm-confirm-spec : {M : Type 1} → statement M
@@ -32,6 +25,4 @@ rfm-confirm-spec =
     confirm-requires
     packed-answer-requires
     same-length
-    same-length-2
-    same-length-3
     returns)
