@@ -16,7 +16,7 @@ same-length c = search needs
 returns : tie.Need-returns
 returns c =
     let at-confirm = c .before .before .before in
-    crossing (at-confirm .confirm .result) _ _ _ _ (at-confirm .confirm .ensures .0) (c .packed-answer .ensures)
+    crossing (at-confirm .confirm .result) (at-confirm .confirm .ensures .1) _ _ _ _ (at-confirm .confirm .ensures .0) (c .packed-answer .ensures)
 
 pub rfm-confirm-spec : {M : Type 1} → statement M
 rfm-confirm-spec =

@@ -26,7 +26,7 @@ returns : tie.Need-returns
 returns c =
     let to-run = c .before .before .before .before .before .before in
     let at-run = to-run .before .before .before in
-    crossing (at-run .run .result) _ _ _ _ (at-run .run .ensures .0) (c .packed-answer .ensures)
+    crossing (at-run .run .result) (at-run .run .ensures .1) _ _ _ _ (at-run .run .ensures .0) (c .packed-answer .ensures)
 
 pub rfm-run-spec : {M : Type 1} → statement M
 rfm-run-spec =

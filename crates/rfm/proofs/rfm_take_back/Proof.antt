@@ -23,7 +23,7 @@ returns : tie.Need-returns
 returns c =
     let to-take-back = c .before .before .before .before .before .before in
     let at-take-back = to-take-back .before in
-    crossing (at-take-back .take-back .result) _ _ _ _ (at-take-back .take-back .ensures .0) (c .packed-answer .ensures)
+    crossing (at-take-back .take-back .result) (at-take-back .take-back .ensures .1) _ _ _ _ (at-take-back .take-back .ensures .0) (c .packed-answer .ensures)
 
 pub rfm-take-back-spec : {M : Type 1} → statement M
 rfm-take-back-spec =
