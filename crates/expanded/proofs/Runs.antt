@@ -27,7 +27,7 @@ use Rattle.expanded.proofs.Fits.{carried-few}
 
 -- a part of a script of bytes is of bytes
 module _ (script : List ℕ) (small : AllBytes script) where
-  part-small : (p n i : ℕ) → byte (part script p n) i < 256
+  pub part-small : (p n i : ℕ) → byte (part script p n) i < 256
   part-small p n i =
       elim (decLt i n) [
         | yes l ↦ rw (byte-part script p n i l) (small (p + i))
@@ -35,12 +35,12 @@ module _ (script : List ℕ) (small : AllBytes script) where
       ]
 
 -- a C-APDU of bytes carries at most 255 of them
-brief : (capdu : List ℕ) (from : ℕ) → byte capdu 4 < 256 → length (part capdu from (carried capdu)) ≤ 255
+pub brief : (capdu : List ℕ) (from : ℕ) → byte capdu 4 < 256 → length (part capdu from (carried capdu)) ≤ 255
 brief capdu from b = rw length-take (omega (arith, carried-few capdu b))
 
 -- a step
 module _ (before : Card) where
-  abbrev Kept : Progress → Type 0
+  abbrev pub Kept : Progress → Type 0
   Kept p = Holds before (p .state .step .session) (p .state .card)
 
   answered-holds : (counts : Bool) (st : State) (kept r : List ℕ) → Holds before (st .step .session) (st .card) → Kept (answered counts st kept r)
@@ -60,7 +60,7 @@ module _ (before : Card) where
   bad-holds code p h = h
 
 -- a script
-on-item : {A : Type 0} (P : A → Type 0) (item : Item) (f : ℕ → ℕ → A) (g : ℕ → A) (x : A) → ((from size : ℕ) → P (f from size)) → ((code : ℕ) → P (g code)) → P x → P (elim item [ Capdu from size ↦ f from size | Bad code ↦ g code | End ↦ x ])
+pub on-item : {A : Type 0} (P : A → Type 0) (item : Item) (f : ℕ → ℕ → A) (g : ℕ → A) (x : A) → ((from size : ℕ) → P (f from size)) → ((code : ℕ) → P (g code)) → P x → P (elim item [ Capdu from size ↦ f from size | Bad code ↦ g code | End ↦ x ])
 on-item P (Capdu from size) f g x h k l = h from size
 on-item P (Bad code) f g x h k l = k code
 on-item P End f g x h k l = l

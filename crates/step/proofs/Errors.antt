@@ -1,4 +1,5 @@
--- "or with an error word, changing nothing": a plan that ends with an error word writes nothing and leaves the session. Assumes nothing.
+-- "or with an error word, changing nothing": a plan that ends with an error word is that of a failed check, which writes nothing, makes
+-- nothing and leaves the session; and so is one that the 1,000-byte rule stops. Assumes nothing.
 use mathlib.Core.Path.{_≡_, refl, sym, ap, _∙_}
 use mathlib.Core.Bool.{Bool, true, false, false≢true}
 use mathlib.Core.List.{List, [], _∷_}
@@ -7,21 +8,20 @@ use Rattle.octets.proofs.Picks.{on-pick}
 use Rattle.card.specs.declared.Row.{Row}
 use Rattle.card.specs.declared.tree.Found.{Found}
 use Rattle.card.specs.declared.tree.Found.the-variants.{At, Nothing}
-use Rattle.card.specs.Row.{Card}
-use Rattle.journal.specs.Changes.{Write, perform}
+use Rattle.journal.specs.Changes.{Write}
 use Rattle.session.specs.declared.Standing.{Standing}
 use Rattle.command.specs.declared.Format.{Format}
 use Rattle.command.specs.declared.Format.the-variants.{Compact, Expanded}
 use Rattle.command.specs.declared.Command.{Command}
 use Rattle.command.specs.declared.checks.Check.{Check}
-use Rattle.command.specs.declared.checks.Check.the-variants.{NotFound}
+use Rattle.command.specs.declared.checks.Check.the-variants.{NotFound, AnswerTooLong}
 use Rattle.command.specs.declared.Outcome.{Outcome}
 use Rattle.command.specs.declared.Outcome.the-variants.{Well, FromFiles, FromWaiting, Error}
 use Rattle.plan.specs.Ends.{Plan, failed, done, handed, produced}
 use Rattle.plan.specs.Files.{File}
 use Rattle.plan.specs.Plans.{Situation, selectEntry, select, readBinary, updateBinary, readRecord, updateRecord, searched, search, increase, switch, getResponse, doneBy}
 use Rattle.decide.specs.Decisions.{planned}
-use Rattle.step.specs.Steps.{carriedOut}
+use Rattle.step.specs.Limits.{limited}
 use Rattle.decide.proofs.Instructed.{of-planned, by-instruction}
 
 abbrev isError : Outcome → Bool
@@ -31,12 +31,12 @@ isError (FromWaiting word n) = false
 isError (Error k) = true
 
 module _ (s : Standing) where
-  abbrev Still : Plan → Type 0
-  Still p = (x : Check) → p .outcome ≡ Error x → (p .writes ≡ []) × (p .session ≡ s)
+  abbrev pub Still : Plan → Type 0
+  Still p = (x : Check) → p .outcome ≡ Error x → p ≡ failed s x
 
   still-failed : (k : Check) → Still (failed s k)
   unfolding failed
-  still-failed k x e = (refl, refl)
+  still-failed k x e = ap (λ (o : Outcome). record { session = s; outcome = o; made = []; writes = [] }) e
 
   -- what ends well
   still-well : (p : Plan) → isError (p .outcome) ≡ false → Still p
@@ -92,9 +92,9 @@ module _ (w : Situation) where
       (λ _. still-done s _ _ _)
       (λ _. still-response s (w .command))
 
-  -- the card and the session stay what they were
-  pub error-still : (waiting : List ℕ) (card : Card) (x : Check) → planned w .outcome ≡ Error x → (carriedOut (planned w) waiting card .card ≡ card) × (carriedOut (planned w) waiting card .session .standing ≡ s)
-  unfolding carriedOut perform
-  error-still waiting card x e =
-      let k = of-planned (Still s) w (still-failed s) (λ _. still-by (w .command .instruction)) x e in
-      (ap (λ (ws : List Write). perform ws card) (k .0), k .1)
+  pub error-still : Still s (planned w)
+  error-still = of-planned (Still s) w (still-failed s) (λ _. still-by (w .command .instruction))
+
+  pub limited-still : (kept : ℕ) (counts : Bool) → Still s (limited kept counts s (planned w))
+  unfolding limited
+  limited-still kept counts = on-pick (Still s) _ _ _ (λ _. still-failed s AnswerTooLong) (λ _. error-still)
