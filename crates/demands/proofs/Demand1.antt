@@ -1,4 +1,5 @@
--- Demand 1: what a refused call leaves, and the numbers of the three calls, of which 5 is for runs. Assumes nothing.
+-- Demand 1: the code meets its contracts, what a refused call leaves, and the numbers of the three calls, of which 5 is for runs.
+-- Assumes nothing.
 use mathlib.Core.Path.{_≡_, refl, sym, subst, _∙_}
 use mathlib.Core.Bool.{Bool, true, false, not, false≢true}
 use mathlib.Core.Logic.{_↔_, inl, inr, ⊎-elim}
@@ -10,14 +11,17 @@ use Rattle.card.specs.Row.{Card}
 use Rattle.journal.specs.Entries.{scriptsOnTrial}
 use Rattle.journal.specs.Sound.{soundCard}
 use Rattle.engine.specs.Numbers.{Arguments, firstGiven, notSound, takeBackRefusals, confirmRefusals}
-use Rattle.demands.specs.Given.{running, takingBack, confirming, given, number}
-use Rattle.demands.specs.Demand1.{RunNumber, TakeBackNumber, ConfirmNumber, Demand1}
+use Rattle.demands.specs.Called.{running, takingBack, confirming, resultOf, number}
+use Rattle.demands.specs.Demand1.{RunNumber, TakeBackNumber, ConfirmNumber, CodeKeeps, Demand1}
 use Rattle.engine.proofs.RunNumbers.{six-most}
+use Rattle.engine.proofs.run.Met as run
+use Rattle.engine.proofs.take_back.Met as take-back
+use Rattle.engine.proofs.confirm.Met as confirm
 use Rattle.demands.proofs.LawsRefused.{run-number, back-number, confirm-number, run-met, refused}
 
 -- the numbers of a run
-run-numbers : (a : Arguments) (c : Card) → RunNumber a c (number (given (running a) c))
-unfolding given
+run-numbers : (a : Arguments) (c : Card) → RunNumber a c (number (resultOf (running a) c))
+unfolding resultOf
 run-numbers a c =
     record {
       one = run-met a c 1;
@@ -73,20 +77,31 @@ module _ (c : Card) where
   confirm-tests true e =
       record { one = neither (λ h. omega arith) (λ h. not-both (soundCard c) e h); accepted = both refl e; noOther = omega arith }
 
-  pub back-numbers : TakeBackNumber c (number (given takingBack c))
-  unfolding given takeBackRefusals notSound firstGiven
+  pub back-numbers : TakeBackNumber c (number (resultOf takingBack c))
+  unfolding resultOf takeBackRefusals notSound firstGiven
   back-numbers = subst (TakeBackNumber c) (sym (back-number c)) (back-tests (soundCard c) (eqb (scriptsOnTrial (c .journal)) 0) refl refl)
 
-  confirm-numbers : ConfirmNumber c (number (given confirming c))
-  unfolding given confirmRefusals notSound firstGiven
+  confirm-numbers : ConfirmNumber c (number (resultOf confirming c))
+  unfolding resultOf confirmRefusals notSound firstGiven
   confirm-numbers = subst (ConfirmNumber c) (sym (confirm-number c)) (confirm-tests (soundCard c) refl)
 
   -- 5 is for runs
-  pub back-not-five : number (given takingBack c) ≡ 5 → ⊥
+  pub back-not-five : number (resultOf takingBack c) ≡ 5 → ⊥
   back-not-five five = ⊎-elim (λ e. omega arith) (λ e. ⊎-elim (λ e. omega arith) (λ e. omega arith) e) (back-numbers .noOther)
 
-  pub confirm-not-five : number (given confirming c) ≡ 5 → ⊥
+  pub confirm-not-five : number (resultOf confirming c) ≡ 5 → ⊥
   confirm-not-five five = omega (arith, confirm-numbers .noOther)
 
+-- the code meets its contracts
+code : CodeKeeps
+code = record { run = run.met; takeBack = take-back.met; confirm = confirm.met }
+
 pub demand1 : Demand1
-demand1 = record { refused = refused; runs = run-numbers; takeBacks = back-numbers; confirmations = confirm-numbers }
+demand1 =
+    record {
+      code = code;
+      refused = refused;
+      runs = run-numbers;
+      takeBacks = back-numbers;
+      confirmations = confirm-numbers;
+    }

@@ -5,7 +5,7 @@
 -- only R-APDU, which stands in the answer whether it is kept or is the last (`either-counts`), in the form of the template
 -- (`template-answer`). Assumes nothing.
 use Prim.Native.Nat.{ℕ}
-use mathlib.Core.Path.{_≡_, refl, sym, ap, _∙_}
+use mathlib.Core.Path.{_≡_, refl, ap, _∙_}
 use mathlib.Core.Bool.{Bool, true, false}
 use mathlib.Core.List.{List, [], _∷_, _++_}
 use borrow.Author.Tests.{ne-eqb}
@@ -38,7 +38,7 @@ use Rattle.step.specs.Limits.{rapduSize, limited}
 use Rattle.expanded.specs.Expanded.{rapdu, keeps, Progress, answered, lastRapdu, stepCapdu, begun, countBytes, definiteBody, definiteAnswer, indefiniteAnswer, answerBytes}
 use Rattle.engine.specs.Numbers.{Arguments, formatOf}
 use Rattle.engine.specs.Calls.{accepted, runScript}
-use Rattle.demands.specs.Given.{running, given, number}
+use Rattle.demands.specs.Called.{running, resultOf, number}
 use Rattle.engine.specs.Hex.{digit, hex}
 use Rattle.demands.specs.Commands.{Read, readIn, commandsOf, commandDone, wordGoesOn, statesAfter, Piece, capdu, piecesOf, isDefinite, pieceDone, pieceGoesOn, progressAfter}
 use Rattle.demands.specs.Demand2.{WorksOnFile, firstSituation, oneCommand, noFile, Fresh}
@@ -74,8 +74,8 @@ module _ (script : List ℕ) (application domain : ℕ) (card : Card) (r : Read)
       ∙ one-only (commandDone domain) wordGoesOn (started application card) (commandsOf script) r rs first (ap wordGoesOn command-fails)
       ∙ command-fails
 
-compact-fresh : (a : Arguments) (c : Card) (r : Read) (rs : List Read) → number (given (running a) c) ≡ 0 → a .format ≡ 0 → commandsOf (a .script) ≡ r ∷ rs
-    → WorksOnFile (firstSituation Compact a r c) → given (running a) c ≡ oneCommand c (hex "016986") (a .response)
+compact-fresh : (a : Arguments) (c : Card) (r : Read) (rs : List Read) → number (resultOf (running a) c) ≡ 0 → a .format ≡ 0 → commandsOf (a .script) ≡ r ∷ rs
+    → WorksOnFile (firstSituation Compact a r c) → resultOf (running a) c ≡ oneCommand c (hex "016986") (a .response)
 unfolding runScript accepted compact.answer oneCommand stopped started stepped carriedOut failed checkWord perform dataOf bytes2 hex digit pick formatOf
 compact-fresh a c r rs ok f first works =
     run-done a c ok
@@ -119,10 +119,10 @@ template-answer (Definite at end) p application c response e f = rw (e, f)
 template-answer (Indefinite at end) p application c response e f = rw (e, f)
 template-answer Missing p application c response e f = rw e
 
-expanded-fresh : (a : Arguments) (c : Card) (bytes : List ℕ) (pieces : List Piece) → number (given (running a) c) ≡ 0 → a .format ≡ 1
+expanded-fresh : (a : Arguments) (c : Card) (bytes : List ℕ) (pieces : List Piece) → number (resultOf (running a) c) ≡ 0 → a .format ≡ 1
     → piecesOf (templateOf (a .script)) (a .script) ≡ capdu bytes ∷ pieces
     → WorksOnFile (firstSituation Expanded a (readIn bytes (capduCommand bytes)) c)
-    → given (running a) c ≡ oneCommand c (noFile (templateOf (a .script))) (a .response)
+    → resultOf (running a) c ≡ oneCommand c (noFile (templateOf (a .script))) (a .response)
 unfolding runScript formatOf pick progressAfter
 expanded-fresh a c bytes pieces ok f first works =
     let t = templateOf (a .script) in
@@ -136,7 +136,7 @@ expanded-fresh a c bytes pieces ok f first works =
     ∙ rw (f, whole)
     (template-answer t p (a .application) c (a .response) (fails .0) (fails .1))
 
-pub fresh : (c : Card) (a : Arguments) → number (given (running a) c) ≡ 0 → Fresh c a
+pub fresh : (c : Card) (a : Arguments) → number (resultOf (running a) c) ≡ 0 → Fresh c a
 unfolding started startStanding startWaiting
 fresh c a ok =
     record {

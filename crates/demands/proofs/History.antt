@@ -11,8 +11,9 @@ use Rattle.octets.specs.Choice.{pick}
 use Rattle.card.specs.Row.{Card}
 use Rattle.engine.specs.Calls.{Result}
 use Rattle.engine.specs.Numbers.{Arguments}
-use Rattle.demands.specs.Given.{Call, running, takingBack, confirming, given, number, Seen, seen}
-use Rattle.demands.specs.Demand3.{gave, left, Past, anyOnTrial, struck, settled, past, afterRun, afterTakeBack, afterConfirm, afterCall, remainsFrom, remains, InBytes, AllInBytes, callsOf, answersOf, Replayed}
+use Rattle.demands.specs.Called.{Call, running, takingBack, confirming, resultOf, number, Seen, seen}
+use Rattle.demands.specs.Remains.{answersFrom, cardAfter, Past, anyOnTrial, struck, settled, past, afterRun, afterTakeBack, afterConfirm, afterCall, remainsFrom, remains, callsOf, answersOf}
+use Rattle.demands.specs.Demand3.{InBytes, AllInBytes, Replayed}
 use Rattle.demands.proofs.LawsRefused.{unchanged}
 use Rattle.demands.proofs.LawsTaken.{taken-back}
 use Rattle.demands.proofs.LawsAlike.{alike}
@@ -20,15 +21,15 @@ use Rattle.demands.proofs.Demand1.{back-not-five, confirm-not-five}
 
 -- a call that remains was refused, and not with 5
 record Refused (p : Past) : Type 0 where
-  pub notDone : p .gave .answer .number ≡ 0 → ⊥
-  pub notFive : p .gave .answer .number ≡ 5 → ⊥
+  pub notDone : p .seen .answer .number ≡ 0 → ⊥
+  pub notFive : p .seen .answer .number ≡ 5 → ⊥
 
 -- one call that remains leads from a card to the next: it gave what it is said to have given, it is an accepted run if it is on trial, and it
 -- was refused if it is newer than a script on trial and not on trial itself
 record Link (ps : List Past) (p : Past) (m c′ : Card) : Type 0 where
-  pub card : given (p .call) m .card ≡ c′
-  pub shown : seen (given (p .call) m) ≡ p .gave
-  pub trial : p .onTrial ≡ true → (a : Arguments) × (p .call ≡ running a) × (p .gave .answer .number ≡ 0) × InBytes (running a)
+  pub card : resultOf (p .call) m .card ≡ c′
+  pub shown : seen (resultOf (p .call) m) ≡ p .seen
+  pub trial : p .onTrial ≡ true → (a : Arguments) × (p .call ≡ running a) × (p .seen .answer .number ≡ 0) × InBytes (running a)
   pub newer : p .onTrial ≡ false → anyOnTrial ps ≡ true → Refused p
 
 -- what remains, newest first, leads from the first card to the last
@@ -38,35 +39,35 @@ Reached c (p ∷ ps) c′ = (m : Card) × Reached c ps m × Link ps p m c′
 
 -- ---- played again
 
-gave-last : (c : Card) (hs : List Call) (h : Call) → gave c (hs ++ (h ∷ [])) ≡ gave c hs ++ (seen (given h (left c hs)) ∷ [])
-unfolding gave left
-gave-last c [] h = refl
-gave-last c (g ∷ hs) h = ap (λ (xs : List Seen). seen (given g c) ∷ xs) (gave-last (given g c .card) hs h)
+answers-last : (c : Card) (hs : List Call) (h : Call) → answersFrom c (hs ++ (h ∷ [])) ≡ answersFrom c hs ++ (seen (resultOf h (cardAfter c hs)) ∷ [])
+unfolding answersFrom cardAfter
+answers-last c [] h = refl
+answers-last c (g ∷ hs) h = ap (λ (xs : List Seen). seen (resultOf g c) ∷ xs) (answers-last (resultOf g c .card) hs h)
 
-left-last : (c : Card) (hs : List Call) (h : Call) → left c (hs ++ (h ∷ [])) ≡ given h (left c hs) .card
-unfolding left
-left-last c [] h = refl
-left-last c (g ∷ hs) h = left-last (given g c .card) hs h
+card-last : (c : Card) (hs : List Call) (h : Call) → cardAfter c (hs ++ (h ∷ [])) ≡ resultOf h (cardAfter c hs) .card
+unfolding cardAfter
+card-last c [] h = refl
+card-last c (g ∷ hs) h = card-last (resultOf g c .card) hs h
 
 -- calls, oldest first, that give from the first card on what they are said to have given, and leave the last card
 abbrev Replay : Card → List Past → Card → Type 0
-Replay c qs c′ = (gave c (callsOf qs) ≡ answersOf qs) × (left c (callsOf qs) ≡ c′)
+Replay c qs c′ = (answersFrom c (callsOf qs) ≡ answersOf qs) × (cardAfter c (callsOf qs) ≡ c′)
 
 one-more : (c : Card) (qs : List Past) (p : Past) (m c′ : Card) → Replay c qs m
-    → given (p .call) m .card ≡ c′ → seen (given (p .call) m) ≡ p .gave → Replay c (qs ++ (p ∷ [])) c′
+    → resultOf (p .call) m .card ≡ c′ → seen (resultOf (p .call) m) ≡ p .seen → Replay c (qs ++ (p ∷ [])) c′
 one-more c qs p m c′ before e s = (
-  ap (gave c) (map-append (λ (q : Past). q .call) qs (p ∷ []))
-      ∙ gave-last c (callsOf qs) (p .call)
-      ∙ ap₂ (λ (xs : List Seen) (x : Seen). xs ++ (x ∷ [])) (before .0) (ap (λ (k : Card). seen (given (p .call) k)) (before .1) ∙ s)
-      ∙ sym (map-append (λ (q : Past). q .gave) qs (p ∷ [])),
-  ap (left c) (map-append (λ (q : Past). q .call) qs (p ∷ []))
-      ∙ left-last c (callsOf qs) (p .call)
-      ∙ ap (λ (k : Card). given (p .call) k .card) (before .1)
+  ap (answersFrom c) (map-append (λ (q : Past). q .call) qs (p ∷ []))
+      ∙ answers-last c (callsOf qs) (p .call)
+      ∙ ap₂ (λ (xs : List Seen) (x : Seen). xs ++ (x ∷ [])) (before .0) (ap (λ (k : Card). seen (resultOf (p .call) k)) (before .1) ∙ s)
+      ∙ sym (map-append (λ (q : Past). q .seen) qs (p ∷ [])),
+  ap (cardAfter c) (map-append (λ (q : Past). q .call) qs (p ∷ []))
+      ∙ card-last c (callsOf qs) (p .call)
+      ∙ ap (λ (k : Card). resultOf (p .call) k .card) (before .1)
       ∙ e,
 )
 
 replay : (c : Card) (ps : List Past) (c′ : Card) → Reached c ps c′ → Replay c (reverse ps) c′
-unfolding gave left
+unfolding answersFrom cardAfter
 replay c [] c′ e = (refl, e)
 replay c (p ∷ ps) c′ r =
     subst (λ (qs : List Past). Replay c qs c′) (sym (reverse-cons p ps))
@@ -75,38 +76,38 @@ replay c (p ∷ ps) c′ r =
 -- ---- one call more
 
 -- the number of what was shown
-shown-number : (p : Past) (r : Result) → seen r ≡ p .gave → number r ≡ p .gave .answer .number
+shown-number : (p : Past) (r : Result) → seen r ≡ p .seen → number r ≡ p .seen .answer .number
 unfolding seen
 shown-number p r e = ap (λ (s : Seen). s .answer .number) e
 
 -- a take-back from an accepted run's card
-strike-trial : (p : Past) (m c′ : Card) (a : Arguments) → p .call ≡ running a → p .gave .answer .number ≡ 0 → InBytes (running a)
-    → seen (given (p .call) m) ≡ p .gave → given (p .call) m .card ≡ c′ → m ≡ given takingBack c′ .card
+strike-trial : (p : Past) (m c′ : Card) (a : Arguments) → p .call ≡ running a → p .seen .answer .number ≡ 0 → InBytes (running a)
+    → seen (resultOf (p .call) m) ≡ p .seen → resultOf (p .call) m .card ≡ c′ → m ≡ resultOf takingBack c′ .card
 strike-trial p m c′ a ca n small s e =
-    sym (ap (λ (r : Result). r .card) (taken-back a m small (sym (ap (λ (h : Call). number (given h m)) ca) ∙ shown-number p (given (p .call) m) s ∙ n)))
-    ∙ ap (λ (k : Card). given takingBack k .card) (sym (ap (λ (h : Call). given h m .card) ca) ∙ e)
+    sym (ap (λ (r : Result). r .card) (taken-back a m small (sym (ap (λ (h : Call). number (resultOf h m)) ca) ∙ shown-number p (resultOf (p .call) m) s ∙ n)))
+    ∙ ap (λ (k : Card). resultOf takingBack k .card) (sym (ap (λ (h : Call). resultOf h m .card) ca) ∙ e)
 
 -- a refused call leaves the card
-still : (p : Past) (m : Card) → Refused p → seen (given (p .call) m) ≡ p .gave → given (p .call) m .card ≡ m
-still p m ref s = unchanged (p .call) m (λ z. ref .notDone (sym (shown-number p (given (p .call) m) s) ∙ z))
+still : (p : Past) (m : Card) → Refused p → seen (resultOf (p .call) m) ≡ p .seen → resultOf (p .call) m .card ≡ m
+still p m ref s = unchanged (p .call) m (λ z. ref .notDone (sym (shown-number p (resultOf (p .call) m) s) ∙ z))
 
 -- a refused call on the card that a take-back leaves
-again : (p : Past) (m : Card) → Refused p → seen (given (p .call) m) ≡ p .gave → number (given takingBack m) ≡ 0
-    → seen (given (p .call) (given takingBack m .card)) ≡ p .gave
+again : (p : Past) (m : Card) → Refused p → seen (resultOf (p .call) m) ≡ p .seen → number (resultOf takingBack m) ≡ 0
+    → seen (resultOf (p .call) (resultOf takingBack m .card)) ≡ p .seen
 again p m ref s ok =
-    let n : number (given (p .call) m) ≡ p .gave .answer .number = shown-number p (given (p .call) m) s in
+    let n : number (resultOf (p .call) m) ≡ p .seen .answer .number = shown-number p (resultOf (p .call) m) s in
     alike (p .call) m ok (λ z. ref .notDone (sym n ∙ z)) (λ z. ref .notFive (sym n ∙ z)) ∙ s
 
-refused-link : (ps : List Past) (p : Past) (m : Card) → Refused p → p .onTrial ≡ false → seen (given (p .call) m) ≡ p .gave
+refused-link : (ps : List Past) (p : Past) (m : Card) → Refused p → p .onTrial ≡ false → seen (resultOf (p .call) m) ≡ p .seen
     → Link ps p m m
 refused-link ps p m ref off s =
     record { card = still p m ref s; shown = s; trial = λ on. absurd (false≢true (sym off ∙ on)); newer = λ _ _. ref }
 
 -- one call of `strike` below: the newest is the script on trial that is struck out, or it was refused and stays
 strike-at : (c : Card) (p : Past) (ps : List Past) (c′ : Card) (on : Bool) → p .onTrial ≡ on → Reached c (p ∷ ps) c′
-    → (on || anyOnTrial ps) ≡ true → number (given takingBack c′) ≡ 0
-    → ((m : Card) → Reached c ps m → anyOnTrial ps ≡ true → number (given takingBack m) ≡ 0 → Reached c (struck ps) (given takingBack m .card))
-    → Reached c (pick on ps (p ∷ struck ps)) (given takingBack c′ .card)
+    → (on || anyOnTrial ps) ≡ true → number (resultOf takingBack c′) ≡ 0
+    → ((m : Card) → Reached c ps m → anyOnTrial ps ≡ true → number (resultOf takingBack m) ≡ 0 → Reached c (struck ps) (resultOf takingBack m .card))
+    → Reached c (pick on ps (p ∷ struck ps)) (resultOf takingBack c′ .card)
 unfolding pick
 strike-at c p ps c′ true on r any ok below =
     let t = r .2 .trial on in
@@ -115,13 +116,13 @@ strike-at c p ps c′ false off r any ok below =
     let m : Card = r .0 in
     let ref : Refused p = r .2 .newer off any in
     let same : m ≡ c′ = sym (still p m ref (r .2 .shown)) ∙ r .2 .card in
-    let ok′ : number (given takingBack m) ≡ 0 = ap (λ (k : Card). number (given takingBack k)) same ∙ ok in
-    subst (λ (k : Card). Reached c (p ∷ struck ps) (given takingBack k .card)) same
-    (given takingBack m .card, below m (r .1) any ok′, refused-link (struck ps) p (given takingBack m .card) ref off (again p m ref (r .2 .shown) ok′))
+    let ok′ : number (resultOf takingBack m) ≡ 0 = ap (λ (k : Card). number (resultOf takingBack k)) same ∙ ok in
+    subst (λ (k : Card). Reached c (p ∷ struck ps) (resultOf takingBack k .card)) same
+    (resultOf takingBack m .card, below m (r .1) any ok′, refused-link (struck ps) p (resultOf takingBack m .card) ref off (again p m ref (r .2 .shown) ok′))
 
 -- the newest script on trial is struck out: what is left reaches the card that a take-back leaves
-strike : (c : Card) (ps : List Past) (c′ : Card) → Reached c ps c′ → anyOnTrial ps ≡ true → number (given takingBack c′) ≡ 0
-    → Reached c (struck ps) (given takingBack c′ .card)
+strike : (c : Card) (ps : List Past) (c′ : Card) → Reached c ps c′ → anyOnTrial ps ≡ true → number (resultOf takingBack c′) ≡ 0
+    → Reached c (struck ps) (resultOf takingBack c′ .card)
 unfolding anyOnTrial struck
 strike c [] c′ r any ok = absurd (false≢true any)
 strike c (p ∷ ps) c′ r any ok = strike-at c p ps c′ (p .onTrial) refl r any ok (λ m. strike c ps m)
@@ -148,18 +149,18 @@ settle c (p ∷ ps) c′ r = (
 
 -- a call that is not on trial stays: it was refused, or nothing older is on trial
 stays : (c : Card) (ps : List Past) (m : Card) (h : Call) → Reached c ps m
-    → (anyOnTrial ps ≡ true → Refused (past h (given h m) false)) → Reached c (past h (given h m) false ∷ ps) (given h m .card)
+    → (anyOnTrial ps ≡ true → Refused (past h (resultOf h m) false)) → Reached c (past h (resultOf h m) false ∷ ps) (resultOf h m .card)
 unfolding past
 stays c ps m h r newer =
     (m, r, record { card = refl; shown = refl; trial = λ on. absurd (false≢true on); newer = λ _ any. newer any })
 
 -- a run
 run-more : (c : Card) (ps : List Past) (m : Card) (a : Arguments) → InBytes (running a) → (done five : Bool) → Reached c ps m
-    → eqb (number (given (running a) m)) 0 ≡ done → eqb (number (given (running a) m)) 5 ≡ five
-    → Reached c (pick five ps (past (running a) (given (running a) m) done ∷ ps)) (given (running a) m .card)
+    → eqb (number (resultOf (running a) m)) 0 ≡ done → eqb (number (resultOf (running a) m)) 5 ≡ five
+    → Reached c (pick five ps (past (running a) (resultOf (running a) m) done ∷ ps)) (resultOf (running a) m .card)
 unfolding pick past seen
 run-more c ps m a small done true r d f =
-    subst (λ (k : Card). Reached c ps k) (sym (unchanged (running a) m (λ z. omega (arith, eqb-true (number (given (running a) m)) 5 f)))) r
+    subst (λ (k : Card). Reached c ps k) (sym (unchanged (running a) m (λ z. omega (arith, eqb-true (number (resultOf (running a) m)) 5 f)))) r
 run-more c ps m a small true false r d f =
     (m, r, record { card = refl; shown = refl; trial = λ _. (a, refl, eqb-true _ _ d, small); newer = λ off _. absurd (false≢true (sym off)) })
 run-more c ps m a small false false r d f =
@@ -167,9 +168,9 @@ run-more c ps m a small false false r d f =
 
 -- a take-back
 back-more : (c : Card) (ps : List Past) (m : Card) (done any : Bool) → Reached c ps m
-    → eqb (number (given takingBack m)) 0 ≡ done → anyOnTrial ps ≡ any
-    → Reached c (pick done (pick any (struck ps) (past takingBack (given takingBack m) false ∷ ps)) (past takingBack (given takingBack m) false ∷ ps))
-    (given takingBack m .card)
+    → eqb (number (resultOf takingBack m)) 0 ≡ done → anyOnTrial ps ≡ any
+    → Reached c (pick done (pick any (struck ps) (past takingBack (resultOf takingBack m) false ∷ ps)) (past takingBack (resultOf takingBack m) false ∷ ps))
+    (resultOf takingBack m .card)
 unfolding pick
 back-more c ps m true true r d t = strike c ps m r t (eqb-true _ _ d)
 back-more c ps m true false r d t = stays c ps m takingBack r (λ some. absurd (false≢true (sym t ∙ some)))
@@ -178,9 +179,9 @@ back-more c ps m false any r d t =
 
 -- a confirmation
 confirm-more : (c : Card) (ps : List Past) (m : Card) (done : Bool) → Reached c ps m
-    → eqb (number (given confirming m)) 0 ≡ done
-    → Reached c (pick done (past confirming (given confirming m) false ∷ map settled ps) (past confirming (given confirming m) false ∷ ps))
-    (given confirming m .card)
+    → eqb (number (resultOf confirming m)) 0 ≡ done
+    → Reached c (pick done (past confirming (resultOf confirming m) false ∷ map settled ps) (past confirming (resultOf confirming m) false ∷ ps))
+    (resultOf confirming m .card)
 unfolding pick
 confirm-more c ps m true r d =
     stays c (map settled ps) m confirming (settle c ps m r) (λ some. absurd (false≢true (sym (none-settled ps) ∙ some)))
@@ -188,21 +189,21 @@ confirm-more c ps m false r d =
     stays c ps m confirming r (λ _. unfold past seen in record { notDone = eqb-false _ _ d; notFive = confirm-not-five m })
 
 -- one call more
-call-more : (c : Card) (ps : List Past) (m : Card) (h : Call) → InBytes h → Reached c ps m → Reached c (afterCall h (given h m) ps) (given h m .card)
+call-more : (c : Card) (ps : List Past) (m : Card) (h : Call) → InBytes h → Reached c ps m → Reached c (afterCall h (resultOf h m) ps) (resultOf h m .card)
 unfolding afterCall afterRun afterTakeBack afterConfirm
 call-more c ps m (running a) small r =
-    run-more c ps m a small (eqb (number (given (running a) m)) 0) (eqb (number (given (running a) m)) 5) r refl refl
-call-more c ps m takingBack small r = back-more c ps m (eqb (number (given takingBack m)) 0) (anyOnTrial ps) r refl refl
-call-more c ps m confirming small r = confirm-more c ps m (eqb (number (given confirming m)) 0) r refl
+    run-more c ps m a small (eqb (number (resultOf (running a) m)) 0) (eqb (number (resultOf (running a) m)) 5) r refl refl
+call-more c ps m takingBack small r = back-more c ps m (eqb (number (resultOf takingBack m)) 0) (anyOnTrial ps) r refl refl
+call-more c ps m confirming small r = confirm-more c ps m (eqb (number (resultOf confirming m)) 0) r refl
 
 -- a whole history
-all-more : (c : Card) (ps : List Past) (m : Card) (hs : List Call) → AllInBytes hs → Reached c ps m → Reached c (remainsFrom m ps hs) (left m hs)
-unfolding remainsFrom left
+all-more : (c : Card) (ps : List Past) (m : Card) (hs : List Call) → AllInBytes hs → Reached c ps m → Reached c (remainsFrom m ps hs) (cardAfter m hs)
+unfolding remainsFrom cardAfter
 all-more c ps m [] small r = r
-all-more c ps m (h ∷ hs) small r = all-more c (afterCall h (given h m) ps) (given h m .card) hs (small .1) (call-more c ps m h (small .0) r)
+all-more c ps m (h ∷ hs) small r = all-more c (afterCall h (resultOf h m) ps) (resultOf h m .card) hs (small .1) (call-more c ps m h (small .0) r)
 
 pub replayed : (c : Card) (hs : List Call) → AllInBytes hs → Replayed c hs
 unfolding remains
 replayed c hs small =
-    let played = replay c (remainsFrom c [] hs) (left c hs) (all-more c [] c hs small refl) in
+    let played = replay c (remainsFrom c [] hs) (cardAfter c hs) (all-more c [] c hs small refl) in
     record { answers = played .0; card = played .1 }

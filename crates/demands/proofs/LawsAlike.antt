@@ -18,7 +18,7 @@ use Rattle.journal.proofs.Cut.{cut-length, cut-scripts, cut-used}
 use Rattle.journal.proofs.Kept.{taken-alike, taken-sound}
 use Rattle.engine.specs.Numbers.{Arguments, applicationFits, argumentsFit}
 use Rattle.engine.specs.Calls.{numbered, run}
-use Rattle.demands.specs.Given.{Call, running, takingBack, confirming, given, number, lentResponse, seen}
+use Rattle.demands.specs.Called.{Call, running, takingBack, confirming, resultOf, number, lentResponse, seen}
 use Rattle.engine.proofs.Answers.{confirm-done}
 use Rattle.engine.proofs.RunNumbers.{Met}
 use Rattle.demands.proofs.LawsRefused.{run-met, refused, back-card}
@@ -61,14 +61,14 @@ module _ (s a f : Bool) (long least : ℕ) (m m′ t : Bool) (more : m ≡ true 
   still-met (suc (suc (suc (suc (suc (suc zero)))))) z h = (h .0, h .1, h .2, h .3, more (h .4), h .5)
   still-met (suc (suc (suc (suc (suc (suc (suc n))))))) z h = h
 
-run-alike : (a : Arguments) (c : Card) → soundCard c ≡ true → (number (given (running a) c) ≡ 5 → ⊥) → number (given (running a) (takenBack c)) ≡ number (given (running a) c)
+run-alike : (a : Arguments) (c : Card) → soundCard c ≡ true → (number (resultOf (running a) c) ≡ 5 → ⊥) → number (resultOf (running a) (takenBack c)) ≡ number (resultOf (running a) c)
 run-alike a c sound five =
     run-met a (takenBack c) _ .1
     (rw (taken-sound c sound ∙ sym sound, arguments-back c sound a)
-    (still-met _ _ _ _ _ (markFits (c .journal)) _ _ (mark-fits-back c sound) (number (given (running a) c)) five (run-met a c _ .0 refl)))
+    (still-met _ _ _ _ _ (markFits (c .journal)) _ _ (mark-fits-back c sound) (number (resultOf (running a) c)) five (run-met a c _ .0 refl)))
 
-pub alike : (h : Call) (c : Card) → number (given takingBack c) ≡ 0 → (number (given h c) ≡ 0 → ⊥) → (number (given h c) ≡ 5 → ⊥) → seen (given h (given takingBack c .card)) ≡ seen (given h c)
-unfolding given lentResponse seen
+pub alike : (h : Call) (c : Card) → number (resultOf takingBack c) ≡ 0 → (number (resultOf h c) ≡ 0 → ⊥) → (number (resultOf h c) ≡ 5 → ⊥) → seen (resultOf h (resultOf takingBack c .card)) ≡ seen (resultOf h c)
+unfolding resultOf lentResponse seen
 alike (running a) c ok z five =
     let same = run-alike a c (back-numbers c .accepted .0 ok .0) five in
     (λ i. seen (run a (back-card c ok i)))

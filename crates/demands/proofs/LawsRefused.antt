@@ -15,7 +15,7 @@ use Rattle.engine.specs.Numbers.{Arguments, formatOf, firstGiven, runRefusals, 
 use Rattle.engine.specs.Calls.{Result, gives, numbered, accepted, unlessRefused, runScript, run, takeBack, confirm}
 use Rattle.engine.proofs.Answers.{given-nothing, given-done}
 use Rattle.engine.proofs.RunNumbers.{RunMet, is-met, meets}
-use Rattle.demands.specs.Given.{Call, running, takingBack, confirming, given, number, lentResponse}
+use Rattle.demands.specs.Called.{Call, running, takingBack, confirming, resultOf, number, lentResponse}
 
 -- a call that is done where no number is given
 module _ (n : ℕ) (c : Card) (response : List ℕ) (r : Result) (done : number r ≡ 0) where
@@ -45,27 +45,27 @@ unfolding confirm
 confirm-number c = given-number _ c [] _ refl
 
 -- a run has a number exactly where it meets it
-pub run-met : (a : Arguments) (c : Card) (n : ℕ) → number (given (running a) c) ≡ n ↔ RunMet c a n
-unfolding given
+pub run-met : (a : Arguments) (c : Card) (n : ℕ) → number (resultOf (running a) c) ≡ n ↔ RunMet c a n
+unfolding resultOf
 run-met a c n = (λ e. is-met c a (sym (run-number a c) ∙ e), λ h. run-number a c ∙ sym (meets c a n h))
 
 -- an accepted run is its script, on the card with its mark
-pub run-done : (a : Arguments) (c : Card) → number (given (running a) c) ≡ 0 → given (running a) c ≡ runScript (formatOf (a .format) (a .script)) a (withMark c)
-unfolding given run
+pub run-done : (a : Arguments) (c : Card) → number (resultOf (running a) c) ≡ 0 → resultOf (running a) c ≡ runScript (formatOf (a .format) (a .script)) a (withMark c)
+unfolding resultOf run
 run-done a c ok = given-done _ c (a .response) _ (sym (run-number a c) ∙ ok)
 
 -- a refused call gives its number and nothing else
-pub refused : (h : Call) (c : Card) → (number (given h c) ≡ 0 → ⊥) → given h c ≡ gives (numbered (number (given h c))) c (lentResponse h)
-unfolding given run takeBack confirm lentResponse
+pub refused : (h : Call) (c : Card) → (number (resultOf h c) ≡ 0 → ⊥) → resultOf h c ≡ gives (numbered (number (resultOf h c))) c (lentResponse h)
+unfolding resultOf run takeBack confirm lentResponse
 refused (running a) c z = given-alone _ c (a .response) _ (script-done (formatOf (a .format) (a .script)) a _) z
 refused takingBack c z = given-alone _ c [] _ refl z
 refused confirming c z = given-alone _ c [] _ refl z
 
 -- and leaves the card
-pub unchanged : (h : Call) (c : Card) → (number (given h c) ≡ 0 → ⊥) → given h c .card ≡ c
+pub unchanged : (h : Call) (c : Card) → (number (resultOf h c) ≡ 0 → ⊥) → resultOf h c .card ≡ c
 unchanged h c z = ap (λ (r : Result). r .card) (refused h c z)
 
 -- an accepted take-back leaves the card that `takenBack` gives
-pub back-card : (c : Card) → number (given takingBack c) ≡ 0 → given takingBack c .card ≡ takenBack c
-unfolding given takeBack
+pub back-card : (c : Card) → number (resultOf takingBack c) ≡ 0 → resultOf takingBack c .card ≡ takenBack c
+unfolding resultOf takeBack
 back-card c ok = ap (λ (r : Result). r .card) (given-done _ c [] _ (sym (back-number c) ∙ ok))

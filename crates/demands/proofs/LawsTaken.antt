@@ -15,15 +15,15 @@ use Rattle.compact.proofs.Runs as compact
 use Rattle.expanded.proofs.Runs as expanded
 use Rattle.engine.specs.Numbers.{Arguments, formatOf, firstGiven, runRefusals}
 use Rattle.engine.specs.Calls.{Result, gives, numbered, accepted, runScript}
-use Rattle.demands.specs.Given.{running, takingBack, given, number}
+use Rattle.demands.specs.Called.{running, takingBack, resultOf, number}
 use Rattle.demands.specs.Demand3.{InBytes}
 use Rattle.engine.proofs.Answers.{back-done}
 use Rattle.engine.proofs.Accepted.{is-sound, mark-room, marked-starts}
 use Rattle.demands.proofs.LawsRefused.{run-number, run-done}
 
-module _ (a : Arguments) (c : Card) (small : InBytes (running a)) (ok : number (given (running a) c) ≡ 0) where
+module _ (a : Arguments) (c : Card) (small : InBytes (running a)) (ok : number (resultOf (running a) c) ≡ 0) where
   free : firstGiven (runRefusals c a) ≡ 0
-  unfolding given
+  unfolding resultOf
   free = sym (run-number a c) ∙ ok
 
   -- the mark is on the card
@@ -37,11 +37,11 @@ module _ (a : Arguments) (c : Card) (small : InBytes (running a)) (ok : number (
   ends Compact = (_, compact.run-keeps (a .script) small c (a .application) (a .domain) _ begins)
   ends Expanded = (_, expanded.run-keeps (a .script) small c (templateOf (a .script)) (a .application) (a .domain) _ begins)
 
-pub taken-back : (a : Arguments) (c : Card) → InBytes (running a) → number (given (running a) c) ≡ 0 → given takingBack (given (running a) c .card) ≡ gives (numbered 0) c []
-unfolding given
+pub taken-back : (a : Arguments) (c : Card) → InBytes (running a) → number (resultOf (running a) c) ≡ 0 → resultOf takingBack (resultOf (running a) c .card) ≡ gives (numbered 0) c []
+unfolding resultOf
 taken-back a c small ok =
     let d = runScript (formatOf (a .format) (a .script)) a (withMark c) .card in
     let h = ends a c small ok (formatOf (a .format) (a .script)) .1 in
-    ap (λ (r : Result). given takingBack (r .card)) (run-done a c ok)
+    ap (λ (r : Result). resultOf takingBack (r .card)) (run-done a c ok)
     ∙ back-done d (h .sound) (λ z. let t = h .trial in omega arith)
     ∙ ap (λ (k : Card). gives (numbered 0) k []) (h .back)

@@ -6,7 +6,11 @@ pub mod Demand1
 pub mod Commands
 pub mod AllRead
 pub mod Fresh
+pub mod Errors
 pub mod Worked
 pub mod Demand2
+pub mod Room
+pub mod Memory
+pub mod OneMemory
 pub mod Demand3
 pub mod Demands

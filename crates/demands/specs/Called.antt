@@ -1,6 +1,7 @@
--- A call with all that it is called with, and what it gives on a card.
+-- A call with all that it is called with, what it gives on a card, and what its caller gets to see of that.
 use Prim.Native.Nat.{ℕ}
 use mathlib.Core.List.{List, []}
+use lib.ListN.{take}
 use Rattle.card.specs.Row.{Card}
 use Rattle.engine.specs.declared.Answer.{Answer}
 use Rattle.engine.specs.Numbers.{Arguments}
@@ -11,13 +12,13 @@ pub data Call : Type 0 where
   running : Arguments → Call
   takingBack confirming : Call
 
--- what a call gives on a card
-unfoldable pub given : Call → Card → Result
-given (running a) c = run a c
-given takingBack c = takeBack c
-given confirming c = confirm c
+-- what a call on a card gives: its answer, the card after it, and the response memory after it
+unfoldable pub resultOf : Call → Card → Result
+resultOf (running a) c = run a c
+resultOf takingBack c = takeBack c
+resultOf confirming c = confirm c
 
--- the number that a result gives
+-- the call's number
 abbrev pub number : Result → ℕ
 number r = r .answer .number
 
@@ -34,3 +35,11 @@ pub record Seen : Type 0 where
 
 unfoldable pub seen : Result → Seen
 seen r = record { answer = r .answer; response = r .response }
+
+-- what a caller is told by a call: its answer, and the answer's bytes, which are the first `length` of the response memory
+pub record Told : Type 0 where
+  pub answer : Answer
+  pub bytes : List ℕ
+
+unfoldable pub told : Seen → Told
+told s = record { answer = s .answer; bytes = take (s .answer .length) (s .response) }

@@ -1,8 +1,9 @@
--- Demand 1: "No table, memory, journal or script makes the engine fail, read outside what it was lent, or run on. Each call checks
--- everything itself. A refused call gives its number, reports no command executed, and changes no byte."
+-- Demand 1: "No table, memory, journal or script makes the engine fail, read outside what it was lent or run on. Each call checks
+-- everything itself. A refused call gives its number from the table, reports no command executed, and changes no byte of table, files,
+-- journal or response memory."
 --
--- That no call fails, reads outside what it was lent or runs on is what the check of the code itself proves, for any bytes: the
--- three calls ask nothing of their caller. Here stands the rest: which call gets which number, and what a refused call leaves.
+-- The first two sentences are about the code, and said by the statements of its three contracts. The third is about what the calls
+-- give, which those contracts say is what `Calls` gives: which call gets which number, and what a refused call leaves.
 use Prim.Native.Nat.{ℕ, _≤_, _<_}
 use mathlib.Core.Bool.{true, false}
 use mathlib.Core.Logic.{_↔_, _⊎_}
@@ -13,7 +14,10 @@ use Rattle.journal.specs.Entries.{scriptsOnTrial}
 use Rattle.journal.specs.Sound.{markFits, soundCard}
 use Rattle.engine.specs.Numbers.{Arguments, formatOf, argumentsFit, scriptFits, leastResponse, templateFits}
 use Rattle.engine.specs.Calls.{gives, numbered}
-use Rattle.demands.specs.Given.{Call, running, takingBack, confirming, given, number, lentResponse}
+use Rattle.engine.proofs.run.Statement as run
+use Rattle.engine.proofs.take_back.Statement as take-back
+use Rattle.engine.proofs.confirm.Statement as confirm
+use Rattle.demands.specs.Called.{Call, running, takingBack, confirming, resultOf, number, lentResponse}
 
 -- n is the number of a run: "Checked in this order", each is given exactly when its condition holds and none before it does
 pub record RunNumber (a : Arguments) (c : Card) (n : ℕ) : Type 0 where
@@ -66,11 +70,21 @@ pub record ConfirmNumber (c : Card) (n : ℕ) : Type 0 where
   pub accepted : n ≡ 0 ↔ (soundCard c ≡ true)
   pub noOther : n ≤ 1
 
-pub record Demand1 : Type 0 where
+-- the statement of each call's contract, which is about its code in the toolchain's model of a machine: whatever bytes, and however
+-- many, stand in the memories that it is lent, the call does not fail, reads and writes nothing outside them, ends, and gives what
+-- `Calls` gives. None has a `requires`: nothing is left to the caller
+pub record CodeKeeps : Type 2 where
+  pub run : {M : Type 1} → run.statement M
+  pub takeBack : {M : Type 1} → take-back.statement M
+  pub confirm : {M : Type 1} → confirm.statement M
+
+pub record Demand1 : Type 2 where
+  -- the code meets its contracts
+  pub code : CodeKeeps
   -- a call with a number other than 0 has length 0 and count 0, and leaves table, files, journal and response memory as they were
   pub refused :
-      (h : Call) (c : Card) → (number (given h c) ≡ 0 → ⊥) → given h c ≡ gives (numbered (number (given h c))) c (lentResponse h)
+      (h : Call) (c : Card) → (number (resultOf h c) ≡ 0 → ⊥) → resultOf h c ≡ gives (numbered (number (resultOf h c))) c (lentResponse h)
   -- the numbers are exactly those of the table, in its order
-  pub runs : (a : Arguments) (c : Card) → RunNumber a c (number (given (running a) c))
-  pub takeBacks : (c : Card) → TakeBackNumber c (number (given takingBack c))
-  pub confirmations : (c : Card) → ConfirmNumber c (number (given confirming c))
+  pub runs : (a : Arguments) (c : Card) → RunNumber a c (number (resultOf (running a) c))
+  pub takeBacks : (c : Card) → TakeBackNumber c (number (resultOf takingBack c))
+  pub confirmations : (c : Card) → ConfirmNumber c (number (resultOf confirming c))

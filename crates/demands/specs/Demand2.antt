@@ -1,9 +1,11 @@
--- Demand 2: "Each accepted script, compact or expanded, does to the files and answers with the bytes exactly what document 01 says: the
--- same commands run, the same status, count and stopping place."
+-- Demand 2: "Each accepted script, compact or expanded, does to the files and answers with the bytes exactly what document 01 says, on
+-- the ground of ETSI TS 102 226 and TS 102 221: the same commands run, the same status, the same count, the same stopping place."
 --
 -- What a call gives is said in `Calls`, and the contracts of the three calls cite it for the answer and for every byte of each lent
--- memory. Here stands what it comes to: the commands that run and their count, the fresh start, the marked cases, the cyclic law.
+-- memory. Here stands what it comes to: the commands that run and their count, the fresh start, that an error changes nothing, the
+-- marked cases, the cyclic law.
 use Prim.Native.Nat.{ℕ, _+_, _-_, _*_, _%_, _≤_, _<_}
+use mathlib.Core.Bool.{Bool}
 use mathlib.Core.List.{List, [], _∷_}
 use mathlib.Core.Path.{_≡_}
 use lib.ListN.{length}
@@ -18,23 +20,25 @@ use Rattle.tlv.specs.Templates.{templateOf}
 use Rattle.journal.specs.Changes.{withMark}
 use Rattle.session.specs.Session as session
 use Rattle.session.specs.Session.{start}
+use Rattle.command.specs.declared.checks.Check.{Check}
 use Rattle.command.specs.declared.checks.Checked.the-variants.{Passed}
 use Rattle.command.specs.declared.Format.{Format}
 use Rattle.command.specs.declared.Format.the-variants.{Compact, Expanded}
+use Rattle.command.specs.declared.Outcome.the-variants.{Error}
 use Rattle.command.specs.Instructions as ins
 use Rattle.plan.specs.Plans.{Situation}
 use Rattle.decide.specs.Order.{formalChecks}
 use Rattle.decide.specs.Fails.{firstFailing}
-use Rattle.step.specs.Steps.{started}
+use Rattle.step.specs.Steps.{State, started}
 use Rattle.decide.specs.Decisions.{situation}
 use Rattle.compact.specs.Compact as compact
 use Rattle.expanded.specs.Capdu.{capduCommand}
 use Rattle.expanded.specs.Expanded as expanded
-use Rattle.expanded.specs.Expanded.{begun}
+use Rattle.expanded.specs.Expanded.{Progress, begun}
 use Rattle.engine.specs.Numbers.{Arguments, formatOf}
 use Rattle.engine.specs.Calls.{Result, gives, runScript}
-use Rattle.demands.specs.Given.{running, given, number}
-use Rattle.demands.specs.Commands.{lastOf, Read, readIn, commandsFrom, commandsOf, statesAfter, Piece, capdu, piecesIn, piecesOf, progressAfter}
+use Rattle.demands.specs.Called.{running, resultOf, number}
+use Rattle.demands.specs.Commands.{lastOf, Read, readIn, commandsFrom, commandsOf, commandDone, statesAfter, Piece, capdu, piecesIn, piecesOf, pieceDone, progressAfter}
 use Rattle.engine.specs.Hex.{hex}
 use Rattle.engine.specs.Worked.{Marked}
 
@@ -81,8 +85,8 @@ noFile (Definite at end) = hex "AB0780010123026986"
 noFile (Indefinite at end) = hex "AF80230269860000"
 noFile Missing = []
 
--- a run on a card that another run has left: its script starts from its root, with no file, no record number and nothing waiting
--- among 255 bytes of zero; and a first command that works on a file ends it with 6986
+-- an accepted run: whatever an earlier one selected, its script starts from its root, with no file, no record number and nothing
+-- waiting among 255 bytes of zero; and a first command that works on a file ends it with 6986
 pub record Fresh (c : Card) (a : Arguments) : Type 0 where
   pub session :
       started (a .application) (withMark c) .step .session .standing
@@ -99,20 +103,38 @@ pub record Fresh (c : Card) (a : Arguments) : Type 0 where
       (r : Read) (rs : List Read)
       → a .format ≡ 0 → commandsOf (a .script) ≡ r ∷ rs
       → WorksOnFile (firstSituation Compact a r c)
-      → given (running a) c ≡ oneCommand c (hex "016986") (a .response)
+      → resultOf (running a) c ≡ oneCommand c (hex "016986") (a .response)
   pub expanded :
       (bytes : List ℕ) (pieces : List Piece)
       → a .format ≡ 1 → piecesOf (templateOf (a .script)) (a .script) ≡ capdu bytes ∷ pieces
       → WorksOnFile (firstSituation Expanded a (readIn bytes (capduCommand bytes)) c)
-      → given (running a) c ≡ oneCommand c (noFile (templateOf (a .script))) (a .response)
+      → resultOf (running a) c ≡ oneCommand c (noFile (templateOf (a .script))) (a .response)
+
+-- ---- "A command ends well, with or without data, or with an error word, changing nothing."
+
+-- after a command that ends with an error word, card and session are what they were before it
+pub record NothingChanged (before after : State) : Type 0 where
+  pub card : after .card ≡ before .card
+  pub session : after .step .session ≡ before .step .session
+
+-- a compact script's command, and a piece of an expanded one, in any state
+pub record ErrorsChangeNothing : Type 0 where
+  pub compact :
+      (domain : ℕ) (st : State) (r : Read) (k : Check) → commandDone domain st r .step .outcome ≡ Error k
+      → NothingChanged st (commandDone domain st r)
+  pub expanded :
+      (definite : Bool) (domain : ℕ) (p : Progress) (piece : Piece) (k : Check)
+      → pieceDone definite domain p piece .state .step .outcome ≡ Error k
+      → NothingChanged (p .state) (pieceDone definite domain p piece .state)
 
 -- ---- "A cyclic file with m records and newest place k has record r at place (k + r - 1) mod m. This is proved once for any m."
 
 pub record Cyclic (m k : ℕ) : Type 0 where
-  pub place : (r : ℕ) → cyclicPlace m k r ≡ (k + r - 1) % m
+  pub place : (r : ℕ) → 1 ≤ r → cyclicPlace m k r ≡ (k + r - 1) % m
   -- a file of `m` records, with its newest at the place `k`, has record `r` at that place
   pub inFile :
-      (f : Row) (r : ℕ) → recordCount f ≡ m → f .newest ≡ k → recordOffset f r ≡ f .«record_length» * ((k + r - 1) % m)
+      (f : Row) (r : ℕ) → 1 ≤ r → recordCount f ≡ m → f .newest ≡ k
+      → recordOffset f r ≡ f .«record_length» * ((k + r - 1) % m)
   -- record 1 is the newest; records and places are one to one
   pub newest : cyclicPlace m k 1 ≡ k
   pub oneNumber : (r s : ℕ) → 1 ≤ r → r ≤ m → 1 ≤ s → s ≤ m → cyclicPlace m k r ≡ cyclicPlace m k s → r ≡ s
@@ -124,8 +146,8 @@ pub record Cyclic (m k : ℕ) : Type 0 where
 pub record Demand2 : Type 0 where
   -- an accepted run is its script, run on the card with the script's mark
   pub accepted :
-      (a : Arguments) (c : Card) → number (given (running a) c) ≡ 0
-      → given (running a) c ≡ runScript (formatOf (a .format) (a .script)) a (withMark c)
+      (a : Arguments) (c : Card) → number (resultOf (running a) c) ≡ 0
+      → resultOf (running a) c ≡ runScript (formatOf (a .format) (a .script)) a (withMark c)
   -- the same commands run, with the same count and stopping place
   pub compact : (script : List ℕ) (application domain : ℕ) (card : Card) → CompactRuns script application domain card
   pub expanded :
@@ -136,9 +158,7 @@ pub record Demand2 : Type 0 where
   pub allPieces :
       (script : List ℕ) → AllBytes script → (n : ℕ) → length script ≤ n
       → piecesIn n (templateOf script) script ≡ piecesOf (templateOf script) script
-  -- two scripts in a row: the second starts afresh, whatever the first selected
-  pub fresh :
-      (first second : Arguments) (c : Card) → number (given (running second) (given (running first) c .card)) ≡ 0
-      → Fresh (given (running first) c .card) second
+  pub fresh : (a : Arguments) (c : Card) → number (resultOf (running a) c) ≡ 0 → Fresh c a
+  pub errors : ErrorsChangeNothing
   pub marked : Marked
   pub cyclic : (m k : ℕ) → k < m → Cyclic m k
