@@ -3,6 +3,10 @@
 # Where an emulator runs it, OUT is a script and the program itself is OUT.elf.
 set -eu
 . "$(dirname "${BASH_SOURCE[0]}")/machine.sh"
+if [ $# -lt 2 ]; then
+    echo "usage: build.sh OUT SOURCE.. makes the command OUT from C sources (or words for the compiler) and the proved library" >&2
+    exit 2
+fi
 out=$1
 if [ -z "$emulator" ]; then
     link "$@"

@@ -1,9 +1,21 @@
+# shellcheck shell=bash
 # Sourced by the scripts that link the library with C or run what the kit compiles. The kit compiles for x86-64; on
 # an Arm machine a cross compiler links that code and the kit's emulator runs it, and only this file knows.
 root=$(dirname "$(dirname "$(readlink -f "${BASH_SOURCE[0]}")")")
-kit=$(rt doc)
+
+# Says a sentence on standard error: say SENTENCE
+say() { printf '%s: %s\n' "${0##*/}" "$*" >&2; }
+
+command -v rt > /dev/null || {
+    say "this needs the Rattle toolchain, kit 5 or later (5b proved what stands here), and its command rt is not in PATH"
+    exit 1
+}
+kit=$(rt doc) || exit 1
 kit=${kit%/docs/*}
 toolchain=$kit/on/$(uname -m)/toolchain
+
+# The crates that become archives for C: libNAME.a each.
+libraries=(rfm)
 
 # The compiler with its Debian packages, and what runs its programs.
 case $(uname -m) in
@@ -17,30 +29,63 @@ aarch64)
     ;;
 esac
 
-# Sees that a command is there, or installs its Debian packages: need COMMAND PACKAGE..
-need() {
-    command -v "$1" > /dev/null ||
-        { apt-get update -qq && DEBIAN_FRONTEND=noninteractive apt-get install -y -qq "${@:2}"; } > /dev/null
+# Installs Debian packages, or says that they are missing: install_packages PACKAGE..
+install_packages() {
+    say "installing from Debian: $*"
+    { apt-get update -qq && DEBIAN_FRONTEND=noninteractive apt-get install -y -qq "$@"; } > /dev/null ||
+        { say "missing, and not to be installed from here: the Debian packages $*"; return 1; }
 }
 
-# Has rt make a file of the repository, unless nothing has changed since it was made: fresh FILE WORD..
-# The file gets the time at which its making began, so that a change meanwhile counts.
+# Sees that a command is there, or installs its packages: need COMMAND PACKAGE..
+need() { command -v "$1" > /dev/null || install_packages "${@:2}"; }
+
+# Sees that a C compiler and the C library's headers are there, or installs their packages: need_compiler COMMAND PACKAGE..
+need_compiler() { "$1" -E -include stdio.h -x c /dev/null > /dev/null 2>&1 || install_packages "${@:2}"; }
+
+# Prints the digest of all that rt makes files from: the kit and the crates.
+digest() {
+    cd "$root" && { cat "$kit/KIT-ID" && find crates crates.txt -type f -print0 | LC_ALL=C sort -z | xargs -0 sha256sum; } |
+        sha256sum
+}
+
+# Has rt make a file of the repository, unless it was made from the crates as they are: fresh FILE WORD..
+# FILE.from has the digest of what FILE was made from. Each crate is named on standard error when it is proved.
 fresh() {
-    local file=$root/$1 began said
-    if [ ! -e "$file" ] || [ -n "$(find "$root"/crates* "$kit/KIT-ID" -newercm "$file" -print -quit)" ]; then
-        began=$(date +%s.%N)
-        said=$(cd "$root" && rt "${@:2}" 2>&1 < /dev/null) || { printf '%s\n' "$said" "not built: $1" >&2; return 1; }
-        touch -cd "@$began" "$file"
+    local file=$root/$1 from said
+    from=$(digest) || return 1
+    [ ! -e "$file" ] || [ "$(cat "$file.from" 2> /dev/null)" != "$from" ] || return 0
+    if ! mkdir -p "$root/target" 2> /dev/null || [ ! -w "$root/target" ]; then
+        say "$1 is to be made, and $(id -un) may not write to target/: have its owner run this once, or make a clone of your own"
+        return 1
     fi
+    say "proving the crates of $1: 5 to 10 minutes on two cores, once; later only what has changed"
+    rm -f "$file.from"
+    said=$(
+        set -o pipefail
+        cd "$root" && rt "${@:2}" 2>&1 < /dev/null | sed -u '/^rt: .* proved ([0-9]/w /dev/stderr'
+    ) || { sed '/: proved$/d; / proved (/d' <<< "$said" >&2; say "not made: $1"; return 1; }
+    printf '%s\n' "$from" > "$file.from"
 }
 
-# Compiles C sources and links them with the proved library: link OUT SOURCE..
-# RFM_ARCHIVE names another archive to link with, such as an earlier one to compare with.
+# Sees that the archives are there, and sets `archives` to their files. RFM_ARCHIVE names another file to link with in
+# place of them, such as an earlier archive to compare with.
+make_archives() {
+    local name
+    archives=()
+    if [ -n "${RFM_ARCHIVE:-}" ]; then
+        archives=("$RFM_ARCHIVE")
+        return
+    fi
+    for name in "${libraries[@]}"; do
+        fresh "target/staticlib/lib$name.a" staticlib "$name" || return 1
+        archives+=("$root/target/staticlib/lib$name.a")
+    done
+}
+
+# Compiles C sources and links them with every archive of the project: link OUT SOURCE..
 link() {
-    local archive=${RFM_ARCHIVE:-$root/target/staticlib/librfm.a}
-    [ -n "${RFM_ARCHIVE:-}" ] || fresh target/staticlib/librfm.a staticlib rfm
-    need "${compiler[@]}"
-    "${compiler[0]}" -std=c11 -Wall -Wextra -O2 -static -I "$root/include" -o "$@" "$archive"
+    make_archives && need_compiler "${compiler[@]}" &&
+        "${compiler[0]}" -std=gnu11 -Wall -Wextra -O2 -static -I "$root/include" -o "$@" "${archives[@]}"
 }
 
 # Runs an x86-64 program: run PROGRAM ARGUMENT..
