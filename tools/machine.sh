@@ -58,7 +58,7 @@ fresh() {
         say "$1 is to be made, and $(id -un) may not write to target/: have its owner run this once, or make a clone of your own"
         return 1
     fi
-    say "proving the crates of $1: 5 to 10 minutes on two cores, once; later only what has changed"
+    say "proving the crates of $1 that are not proved yet: for all of them 5 to 10 minutes on two cores, once"
     rm -f "$file.from"
     said=$(
         set -o pipefail

@@ -1,7 +1,8 @@
 #!/usr/bin/env bash
-# Tests the command rfm: what it prints, where, and with which status. What it must print is the paper's own.
+# Checks the command rfm: what it prints, where, and with which status. The answer that it must print is the paper's own.
 set -eu
 . "$(dirname "${BASH_SOURCE[0]}")/machine.sh"
+fresh target/bin/worked check worked
 room=$(mktemp -d)
 trap 'rm -rf "$room"' EXIT
 wrong=0

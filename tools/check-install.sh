@@ -1,6 +1,6 @@
 #!/usr/bin/env bash
-# Installs the library into a folder of its own, builds an example outside the tree with what pkg-config says, runs it,
-# and holds what it prints to examples/fleet.expected.
+# Checks installing: puts the library into a folder of its own, builds an example outside the tree with what pkg-config
+# says, runs it, and holds what it prints to examples/fleet.expected.
 set -eu -o pipefail
 . "$(dirname "${BASH_SOURCE[0]}")/machine.sh"
 need pkg-config pkg-config
