@@ -15,15 +15,15 @@ use Rattle.octets.proofs.starts_at.Reads as starts-at
 use Rattle.octets.proofs.within.Reads as within
 
 -- A contract allows one result: whatever the arguments, what a caller sees of two results that it allows is equal. `seen` takes it from
--- an answer and the parameters at exit.
-pub Determined : {Arguments Answer Exit Seen : Type 0} → (Arguments → Answer → Exit → Type 0) → (Answer → Exit → Seen) → Type 0
+-- an answer and the parameters at exit, beside the arguments.
+pub Determined : {Arguments Answer Exit Seen : Type 0} → (Arguments → Answer → Exit → Type 0) → (Arguments → Answer → Exit → Seen) → Type 0
 Determined {Arguments} {Answer} {Exit} allows seen =
-    (args : Arguments) (one other : Answer) (left right : Exit) → allows args one left → allows args other right → seen one left ≡ seen other right
+    (args : Arguments) (one other : Answer) (left right : Exit) → allows args one left → allows args other right → seen args one left ≡ seen args other right
 
 -- The one law: a contract that says what is seen by an equation, whose other side the arguments fix, allows one result.
 pub by-equation :
-    {Arguments Answer Exit Seen : Type 0} {allows : Arguments → Answer → Exit → Type 0} {seen : Answer → Exit → Seen} {given : Arguments → Seen}
-    → ((args : Arguments) (a : Answer) (e : Exit) → allows args a e → seen a e ≡ given args) → Determined allows seen
+    {Arguments Answer Exit Seen : Type 0} {allows : Arguments → Answer → Exit → Type 0} {seen : Arguments → Answer → Exit → Seen} {given : Arguments → Seen}
+    → ((args : Arguments) (a : Answer) (e : Exit) → allows args a e → seen args a e ≡ given args) → Determined allows seen
 unfolding Determined
 by-equation says args one other left right h k = says args one left h ∙ sym (says args other right k)
 
@@ -39,31 +39,31 @@ pub both : {A B : Type 0} {a c : A} {b d : B} → a ≡ c → b ≡ d → pair a
 both e f = λ i. pair (e i) (f i)
 
 module _ (κs : Lfts 0) where
-  pub wide-determined : Determined (wide.Learnt κs) (λ a e. a)
+  pub wide-determined : Determined (wide.Learnt κs) (λ args a e. a)
   wide-determined = by-equation (λ args a e h. h .0)
 
 module _ (κs : Lfts 1) where
-  pub num-at-determined : Determined (num-at.Learnt κs) (λ a e. a)
+  pub num-at-determined : Determined (num-at.Learnt κs) (λ args a e. a)
   num-at-determined = by-equation (λ args a e h. h .0)
 
-  pub put-num-determined : Determined (put-num.Learnt κs) (λ a e. now (e .0))
+  pub put-num-determined : Determined (put-num.Learnt κs) (λ args a e. now (e .0))
   put-num-determined = by-equation (λ args a e h. h)
 
-  pub fill-determined : Determined (fill.Learnt κs) (λ a e. now (e .0))
+  pub fill-determined : Determined (fill.Learnt κs) (λ args a e. now (e .0))
   fill-determined = by-equation (λ args a e h. h)
 
-  pub put-head-determined : Determined (put-head.Learnt κs) (λ a e. now (e .0))
+  pub put-head-determined : Determined (put-head.Learnt κs) (λ args a e. now (e .0))
   put-head-determined = by-equation (λ args a e h. h)
 
-  pub all-zero-determined : Determined (all-zero.Learnt κs) (λ a e. a)
+  pub all-zero-determined : Determined (all-zero.Learnt κs) (λ args a e. a)
   all-zero-determined = by-equation (λ args a e h. h)
 
 module _ (κs : Lfts 2) where
-  pub copy-determined : Determined (copy.Learnt κs) (λ a e. now (e .0))
+  pub copy-determined : Determined (copy.Learnt κs) (λ args a e. now (e .0))
   copy-determined = by-equation (λ args a e h. h)
 
-  pub starts-at-determined : Determined (starts-at.Learnt κs) (λ a e. a)
+  pub starts-at-determined : Determined (starts-at.Learnt κs) (λ args a e. a)
   starts-at-determined = by-equation (λ args a e h. h)
 
-  pub within-determined : Determined (within.Learnt κs) (λ a e. a)
+  pub within-determined : Determined (within.Learnt κs) (λ args a e. a)
   within-determined = by-equation (λ args a e h. h)
