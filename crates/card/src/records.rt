@@ -7,7 +7,7 @@ ghost use Rattle.card.specs.Sound.{recordCount};
 ghost use Rattle.card.specs.Records.{cyclicPlace, recordOffset, oldestPlace};
 
 // Returns the place of record r among m records, with the newest at place k.
-pub fn cyclic_place(m: usize, k: usize, r: usize) -> usize
+fn cyclic_place(m: usize, k: usize, r: usize) -> usize
     requires { ⌜ (1 ≤ m) × (1 ≤ r) × (k + r < 131072) ⌝ }
     ensures { λ p. ⌜ (p ≡ cyclicPlace m k r) × (p < m) ⌝ }
 {

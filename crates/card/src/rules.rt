@@ -29,28 +29,28 @@ pub fn is_file(r: Row) -> bool
 }
 
 // Returns whether an entry can be a directory's child, by its kind.
-pub fn can_be_child(r: Row) -> bool
+pub(crate) fn can_be_child(r: Row) -> bool
     ensures { λ b. ⌜ b ≡ canBeChild r ⌝ }
 {
     !((r.kind == 0) | ((r.kind == 1) | (r.kind == 3)))
 }
 
 // Returns whether entry 0 has the kind, the identifier and the parent of the MF.
-pub fn root_sound(r: Row) -> bool
+pub(crate) fn root_sound(r: Row) -> bool
     ensures { λ b. ⌜ b ≡ rootSound r ⌝ }
 {
     (r.kind == 1) & ((r.identifier == 0x3F00) & (r.parent == 0))
 }
 
 // Returns whether the kind and the parent of entry e are sound, with the parent's row.
-pub fn place_sound(e: usize, parent: Row, r: Row) -> bool
+pub(crate) fn place_sound(e: usize, parent: Row, r: Row) -> bool
     ensures { λ b. ⌜ b ≡ placeSound e parent r ⌝ }
 {
     (2 <= r.kind) & ((r.kind <= 6) & ((r.parent < e) & is_directory(parent)))
 }
 
 // Returns whether an entry's identifier, and an ADF's parent, are sound.
-pub fn name_sound(r: Row) -> bool
+pub(crate) fn name_sound(r: Row) -> bool
     ensures { λ b. ⌜ b ≡ nameSound r ⌝ }
 {
     if r.kind == ADF {
@@ -125,7 +125,7 @@ fn zeros_sound(r: Row) -> bool
 }
 
 // Returns whether an entry is sound by itself, over a file memory of `files` bytes.
-pub fn own_sound(files: usize, r: Row) -> bool
+pub(crate) fn own_sound(files: usize, r: Row) -> bool
     requires { ⌜ RowFits r ⌝ }
     ensures { λ b. ⌜ b ≡ ownSound files r ⌝ }
 {
@@ -157,7 +157,7 @@ fn lie_apart(a: Row, b: Row) -> bool
 }
 
 // Returns whether two entries are sound beside each other.
-pub fn pair_sound(a: Row, b: Row) -> bool
+pub(crate) fn pair_sound(a: Row, b: Row) -> bool
     requires { ⌜ RowFits a × RowFits b ⌝ }
     ensures { λ t. ⌜ t ≡ pairSound a b ⌝ }
 {
