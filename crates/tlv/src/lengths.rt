@@ -49,7 +49,7 @@ fn long_length(bytes: &[u8], at: usize, end: usize) -> Length
 }
 
 // Returns the length that stands at the place `at`, in bytes that end at `end`.
-pub fn length_at(bytes: &[u8], at: usize, end: usize) -> Length
+pub(crate) fn length_at(bytes: &[u8], at: usize, end: usize) -> Length
     requires { ⌜ (at ≤ end) × (end ≤ length (now bytes)) ⌝ }
     ensures { λ r. ⌜ (r ≡ spec.lengthAt (now (bytes .entry)) at end) × spec.LengthFits at end r ⌝ }
 {
@@ -70,7 +70,7 @@ pub fn length_at(bytes: &[u8], at: usize, end: usize) -> Length
 }
 
 // Returns the code of the Bad format TLV for a length that was not found, and 0 for one that was.
-pub fn code_of(l: Length) -> usize
+pub(crate) fn code_of(l: Length) -> usize
     ensures { λ n. ⌜ n ≡ spec.codeOf l ⌝ }
 {
     match l {
