@@ -15,3 +15,4 @@ pub mod Table
 pub mod Forms
 pub mod Changed
 pub mod Kept
+pub mod Determined

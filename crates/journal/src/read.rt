@@ -54,7 +54,7 @@ fn tail_of(bytes: &[u8]) -> Tail
 }
 
 // Returns the tail that ends where the first u bytes of entries end.
-pub fn tail_at(journal: &[u8], u: usize) -> Tail
+pub(crate) fn tail_at(journal: &[u8], u: usize) -> Tail
     requires { ⌜ (8 ≤ u) × (4 + u ≤ length (now journal)) ⌝ }
     ensures { λ r. ⌜ (r ≡ tailAt (now (journal .entry)) u) × (r .kind < 256) × (r .place < 65536) × (r .size < 65536) ⌝ }
 {
@@ -71,7 +71,7 @@ fn tail_formed(bytes: &[u8]) -> bool
 }
 
 // Returns whether a whole entry ends where the first u bytes of entries end.
-pub fn is_readable(journal: &[u8], u: usize) -> bool
+pub(crate) fn is_readable(journal: &[u8], u: usize) -> bool
     requires { ⌜ 4 + u ≤ length (now journal) ⌝ }
     ensures { λ r. ⌜ r ≡ readable (now (journal .entry)) u ⌝ }
 {

@@ -119,7 +119,7 @@ fn entries_sound(table: &[u8], files: usize, journal: &[u8], used: usize, script
 }
 
 // Returns whether a journal is sound beside a table and a file memory.
-pub fn sound_journal(table: &[u8], files: &[u8], journal: &[u8]) -> bool
+fn sound_journal(table: &[u8], files: &[u8], journal: &[u8]) -> bool
     ensures { λ b. ⌜ b ≡ soundJournal (now (table .entry)) (now (files .entry)) (now (journal .entry)) ⌝ }
 {
     if journal.len() != JOURNAL_LENGTH {
