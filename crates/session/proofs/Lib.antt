@@ -2,3 +2,4 @@ pub mod Template
 pub mod Finds
 pub mod Owned
 pub mod Good
+pub mod Determined
