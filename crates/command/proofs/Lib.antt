@@ -3,3 +3,4 @@ pub mod Outgoing
 pub mod Readers
 pub mod ReaderCalls
 pub mod Walked
+pub mod Determined

@@ -38,7 +38,7 @@ pub enum Checked {
 }
 
 // Returns the word of a check that fails.
-pub fn check_word(k: Check) -> usize
+pub(crate) fn check_word(k: Check) -> usize
     ensures { λ n. ⌜ n ≡ spec.checkWord k ⌝ }
 {
     match k {

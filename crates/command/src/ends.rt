@@ -54,7 +54,7 @@ pub fn goes_on(word: usize) -> bool
 }
 
 // Returns data that are a part of the file memory: its n bytes from a place on.
-pub fn from_files<'f, 'w>(files: &'f [u8], waiting: &'w [u8], place: usize, n: usize) -> &'f [u8]
+fn from_files<'f, 'w>(files: &'f [u8], waiting: &'w [u8], place: usize, n: usize) -> &'f [u8]
     requires { ⌜ place + n ≤ length (now files) ⌝ }
     ensures { λ d. ⌜ now d ≡ part (now (files .entry)) place n ⌝ }
 {
@@ -62,7 +62,7 @@ pub fn from_files<'f, 'w>(files: &'f [u8], waiting: &'w [u8], place: usize, n: u
 }
 
 // Returns data that are the first n waiting bytes.
-pub fn from_waiting<'f, 'w>(files: &'f [u8], waiting: &'w [u8], n: usize) -> &'w [u8]
+fn from_waiting<'f, 'w>(files: &'f [u8], waiting: &'w [u8], n: usize) -> &'w [u8]
     requires { ⌜ n ≤ length (now waiting) ⌝ }
     ensures { λ d. ⌜ now d ≡ take n (now (waiting .entry)) ⌝ }
 {
