@@ -6,3 +6,4 @@ pub mod Fit
 pub mod Inside
 pub mod Made
 pub mod Sums
+pub mod Determined

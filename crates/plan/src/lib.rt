@@ -2,7 +2,7 @@
 pub mod does;
 pub mod records;
 pub mod search;
-pub mod sum;
+mod sum;
 
 use command::Format;
 use command::Outcome;
@@ -66,7 +66,7 @@ pub fn failed(s: Standing, k: Check) -> Decision
 }
 
 // Returns the decision of a command that ends well, with a word and no data.
-pub fn done(s: Standing, word: usize, change: Change) -> Decision
+fn done(s: Standing, word: usize, change: Change) -> Decision
     ensures { λ d. ⌜ ((«data» bytes : List ℕ) → planOf d «data» bytes ≡ spec.done s word (writesOf change «data» bytes)) × (d .change ≡ change) ⌝ }
 {
     let next = session::dropped(s);
@@ -79,7 +79,7 @@ pub fn done(s: Standing, word: usize, change: Change) -> Decision
 }
 
 // Returns the decision of a command that ends well, with the n bytes of the file memory from a place on.
-pub fn handed(s: Standing, word: usize, place: usize, n: usize) -> Decision
+fn handed(s: Standing, word: usize, place: usize, n: usize) -> Decision
     ensures { λ d. ⌜ ((«data» bytes : List ℕ) → planOf d «data» bytes ≡ spec.handed s word place n) × (d .change ≡ Change.Nothing) ⌝ }
 {
     let next = session::dropped(s);
@@ -104,7 +104,7 @@ pub fn waited(s: Standing, word: usize, n: usize) -> Decision
 }
 
 // Returns the decision of a command that ends well, with n bytes that it made.
-pub fn produced(format: Format, s: Standing, n: usize, word: usize, change: Change) -> Decision
+fn produced(format: Format, s: Standing, n: usize, word: usize, change: Change) -> Decision
     requires { ⌜ (n ≤ mostWaiting) × (word < 65536) ⌝ }
     ensures { λ d. ⌜ ((«data» bytes out rest : List ℕ) → bytes ≡ overwrite rest 0 out → n ≡ length out → planOf d «data» bytes ≡ spec.produced format s word out (writesOf change «data» bytes)) × (d .change ≡ change) ⌝ }
 {

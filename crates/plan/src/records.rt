@@ -74,7 +74,7 @@ pub fn record_of(c: Command, number: usize, r: Row) -> usize
 }
 
 // Returns the record number after B2 or DC named a record.
-pub fn number_after(p2: usize, number: usize, named: usize) -> usize
+pub(crate) fn number_after(p2: usize, number: usize, named: usize) -> usize
     ensures { λ n. ⌜ n ≡ spec.numberAfter p2 number named ⌝ }
 {
     if p2 == MODE_ABSOLUTE {

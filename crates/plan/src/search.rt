@@ -62,7 +62,14 @@ fn to_search(r: Row, p2: usize, number: usize) -> usize
 
 // Puts the numbers of the records that contain the data, from record `from` on, at the start of `out`, and returns how many there
 // are.
-pub fn search(files: &[u8], r: Row, p2: usize, from: usize, data: &[u8], out: &mut [u8]) -> usize
+pub(crate) fn search(
+    files: &[u8],
+    r: Row,
+    p2: usize,
+    from: usize,
+    data: &[u8],
+    out: &mut [u8],
+) -> usize
     requires { ⌜ Recorded (length (now files)) r × (1 ≤ from) × (from ≤ recordCount r) × (length (now out) ≡ mostWaiting) ⌝ }
     ensures { λ n. ⌜ (now (out .exit) ≡ overwrite (now (out .entry)) 0 (spec.foundRecords r (part (now (files .entry)) (r .start) (r .size)) p2 (now («data» .entry)) from))
         × (n ≡ length (spec.foundRecords r (part (now (files .entry)) (r .start) (r .size)) p2 (now («data» .entry)) from)) ⌝ }
