@@ -7,3 +7,4 @@ pub mod Planned
 pub mod Roomy
 pub mod Plans
 pub mod Passed
+pub mod Determined
