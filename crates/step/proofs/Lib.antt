@@ -4,3 +4,4 @@ pub mod Keeps
 pub mod Handed
 pub mod Errors
 pub mod Walks
+pub mod Determined

@@ -1,7 +1,7 @@
 // One command on a card: decided first, with nothing of the card lent to be written, and then done.
 mod act;
 pub mod lent;
-pub mod limit;
+mod limit;
 
 use act::Done;
 use act::carry_out;
@@ -20,7 +20,7 @@ ghost use Rattle.step.specs.Promised as spec;
 // Runs one command on a card, with its data, from where a script stands, with `kept` bytes of R-APDUs kept and its own counted or not.
 // Returns where the script stands after it, and how it ended. What it makes stands in `made` until it is done, and is then put to the
 // front of the waiting bytes.
-pub fn run_command(
+fn run_command(
     format: Format,
     domain: usize,
     c: Command,

@@ -18,7 +18,7 @@ ghost use Rattle.decide.specs.Promised.{Decided};
 const MOST_KEPT: usize = 1000;
 
 // Returns how many bytes an R-APDU takes whose data are `n` bytes.
-pub fn rapdu_size(n: usize) -> usize
+fn rapdu_size(n: usize) -> usize
     requires { ⌜ n + 2 < 65536 ⌝ }
     ensures { λ r. ⌜ (r ≡ spec.rapduSize n) × (r ≤ n + 6) ⌝ }
 {
