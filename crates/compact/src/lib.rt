@@ -1,5 +1,5 @@
 // Compact scripts.
 pub mod answer;
-pub mod read;
-pub mod reader;
+mod read;
+mod reader;
 pub mod run;
