@@ -25,7 +25,13 @@ const INDEFINITE: u8 = 0xAF;
 const COUNT: u8 = 0x80;
 
 // Writes the R-APDU of an outcome at the place `at`. Returns the place after it.
-pub fn put_rapdu(out: &mut [u8], at: usize, o: Outcome, files: &[u8], waiting: &[u8]) -> usize
+pub(crate) fn put_rapdu(
+    out: &mut [u8],
+    at: usize,
+    o: Outcome,
+    files: &[u8],
+    waiting: &[u8],
+) -> usize
     requires { ⌜ OutcomeFits (length (now files)) o × (length (now waiting) ≡ mostWaiting) × (at + rapduSize (dataCount o) ≤ length (now out)) ⌝ }
     ensures { λ r. ⌜ (now (out .exit) ≡ overwrite (now (out .entry)) at (spec.rapdu (dataOf o (now (files .entry)) (now (waiting .entry))) (wordOf o))) × (r ≡ at + rapduSize (dataCount o)) ⌝ }
 {
@@ -37,7 +43,7 @@ pub fn put_rapdu(out: &mut [u8], at: usize, o: Outcome, files: &[u8], waiting: &
 }
 
 // Writes the Bad format TLV of a code at the place `at`. Returns the place after it.
-pub fn put_bad(out: &mut [u8], at: usize, code: usize) -> usize
+pub(crate) fn put_bad(out: &mut [u8], at: usize, code: usize) -> usize
     requires { ⌜ (at + 3 ≤ length (now out)) × (code < 256) ⌝ }
     ensures { λ r. ⌜ (now (out .exit) ≡ overwrite (now (out .entry)) at (spec.badFormat code)) × (r ≡ at + length (spec.badFormat code)) ⌝ }
 {
@@ -56,7 +62,7 @@ fn count_size(n: usize) -> usize
 }
 
 // Writes the count `n` of commands at the place `at`, as shortest signed integer. Returns the place after it.
-pub fn put_count(out: &mut [u8], at: usize, n: usize) -> usize
+fn put_count(out: &mut [u8], at: usize, n: usize) -> usize
     requires { ⌜ at + 2 ≤ length (now out) ⌝ }
     ensures { λ r. ⌜ (now (out .exit) ≡ overwrite (now (out .entry)) at (spec.countBytes n)) × (r ≡ at + length (spec.countBytes n)) ⌝ }
 {

@@ -1,5 +1,5 @@
 // Expanded scripts.
 pub mod answer;
-pub mod capdu;
-pub mod reader;
+mod capdu;
+mod reader;
 pub mod run;
