@@ -4,3 +4,4 @@ pub mod Hex
 pub mod Decimal
 pub mod Answers
 pub mod Reading
+pub mod Determined

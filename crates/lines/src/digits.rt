@@ -41,7 +41,7 @@ fn sign(n: usize) -> u8
 }
 
 // Returns the number of at most three digits in a base; bad where one of them is no digit of the base.
-pub fn number_of(digits: &[u8], base: usize) -> Number
+pub(crate) fn number_of(digits: &[u8], base: usize) -> Number
     requires { ⌜ (length (now digits) ≤ 3) × (1 ≤ base) × (base ≤ 16) ⌝ }
     ensures { λ r. ⌜ (r ≡ spec.numberOf base (now (digits .entry))) × spec.NumberFits (base ^ length (now (digits .entry))) r ⌝ }
 {
@@ -102,7 +102,7 @@ pub fn decode(digits: &[u8], out: &mut [u8]) -> usize
 }
 
 // Puts bytes at the place `at`, as pairs of hex digits.
-pub fn put_hex(out: &mut [u8], at: usize, bytes: &[u8])
+pub(crate) fn put_hex(out: &mut [u8], at: usize, bytes: &[u8])
     requires { ⌜ at + 2 * length (now bytes) ≤ length (now out) ⌝ }
     ensures { λ _. ⌜ now (out .exit) ≡ overwrite (now (out .entry)) at (spec.hexOf (now (bytes .entry))) ⌝ }
 {
@@ -116,7 +116,7 @@ pub fn put_hex(out: &mut [u8], at: usize, bytes: &[u8])
 }
 
 // Puts a number at the place `at`, in decimal digits. Returns the place after it.
-pub fn put_decimal(out: &mut [u8], at: usize, n: usize) -> usize
+pub(crate) fn put_decimal(out: &mut [u8], at: usize, n: usize) -> usize
     requires { ⌜ at + 20 ≤ length (now out) ⌝ }
     ensures { λ r. ⌜ ((k : ℕ) → n < k → (now (out .exit) ≡ overwrite (now (out .entry)) at (spec.decimalIn k n)) × (r ≡ at + length (spec.decimalIn k n))) ⌝ }
 {
