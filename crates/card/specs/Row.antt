@@ -29,7 +29,7 @@ entries t = length t / entrySize
 unfoldable pub entry : List ℕ → ℕ → List ℕ
 entry t e = part t (entrySize * e) entrySize
 
--- what the bytes of an entry hold
+-- what the bytes of an entry hold: "file identifier", "parent's entry number", "start and length in file memory", "record length"
 unfoldable pub row : List ℕ → Row
 row bs =
     record {
@@ -102,9 +102,11 @@ isCyclic r = eqb (r .kind) 6
 abbrev pub isDirectory : Row → Bool
 isDirectory r = leb 1 (r .kind) && leb (r .kind) 3
 
+-- a file: "4 transparent, 5 linear fixed, 6 cyclic"
 abbrev pub isFile : Row → Bool
 isFile r = leb 4 (r .kind) && leb (r .kind) 6
 
+-- a record file: "5 linear fixed, 6 cyclic"
 abbrev pub hasRecords : Row → Bool
 hasRecords r = isLinear r || isCyclic r
 

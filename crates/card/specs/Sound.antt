@@ -27,7 +27,7 @@ mostRecords = 254
 abbrev pub recordCount : Row → ℕ
 recordCount r = r .size / r .«record_length»
 
--- "entry 0 is kind 1, 3F00, parent 0"
+-- "entry 0 is kind 1, 3F00, parent 0 and no one's child"
 abbrev pub rootSound : Row → Bool
 rootSound r = eqb (r .kind) 1 && (eqb (r .identifier) 0x3F00 && eqb (r .parent) 0)
 
@@ -77,7 +77,7 @@ fileSound files r =
     && (leb (r .start + r .size) files
     && (recordsSound r && (newestSound r (r .newest) && (stateSound (r .state) && ltb (r .never) 32))))
 
--- bytes 11 and 13-15 hold 0
+-- "11 | 0"; "13-15 | 0": the bytes of an entry that have no meaning
 abbrev pub zerosSound : Row → Bool
 zerosSound r = eqb (r .eleven) 0 && (eqb (r .thirteen) 0 && eqb (r .fifteen) 0)
 
