@@ -4,33 +4,40 @@ use mathlib.Core.Bool.{Bool, _&&_, _||_}
 use lib.Dec.{eqb}
 use Rattle.octets.specs.Choice.{pick}
 
+-- "A4 SELECT."
 abbrev pub select : ℕ
 select = 0xA4
 
+-- "B0 READ BINARY"; "D6 UPDATE BINARY"
 abbrev pub readBinary : ℕ
 readBinary = 0xB0
 
 abbrev pub updateBinary : ℕ
 updateBinary = 0xD6
 
+-- "B2, DC records."
 abbrev pub readRecord : ℕ
 readRecord = 0xB2
 
 abbrev pub updateRecord : ℕ
 updateRecord = 0xDC
 
+-- "A2 SEARCH"
 abbrev pub search : ℕ
 search = 0xA2
 
+-- "32 INCREASE"
 abbrev pub increase : ℕ
 increase = 0x32
 
+-- "04, 44 .. deactivate, activate the current file"
 abbrev pub deactivate : ℕ
 deactivate = 0x04
 
 abbrev pub activate : ℕ
 activate = 0x44
 
+-- "C0 GET RESPONSE (compact)"
 abbrev pub getResponse : ℕ
 getResponse = 0xC0
 

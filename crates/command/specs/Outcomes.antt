@@ -22,7 +22,7 @@ selectedDeactivated = 0x6283
 abbrev pub bytesWait : ℕ → ℕ
 bytesWait n = 0x6100 + n
 
--- the word of an outcome
+-- the word of an outcome: "When an answer is an enum, a definition provides this paper's number and values for each of the enum's cases."
 abbrev pub wordOf : Outcome → ℕ
 wordOf (Well word) = word
 wordOf (FromFiles word place n) = word
