@@ -102,7 +102,7 @@ stepRead script domain r st = stepWith domain (r .command) (part script (r .from
 abbrev pub stepAt : List ℕ → ℕ → ℕ → State → State
 stepAt script domain at st = stepRead script domain (readAt script at) st
 
--- the state after the script's commands from a place on, `n` of them at most: a script ends where it has no more bytes, or
+-- "A script is read from front to back, once."; the state after the script's commands from a place on, `n` of them at most: a script ends where it has no more bytes, or
 -- with a command whose word does not go on
 unfoldable pub runFrom : ℕ → List ℕ → ℕ → ℕ → State → State
 runFrom zero script domain at st = st
