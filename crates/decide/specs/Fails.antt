@@ -31,7 +31,7 @@ wrongCase c lc =
     not (eqb (c .case) (caseOf (c .instruction) (c .p2)))
     || (carriesData (c .instruction) && eqb lc 0)
 
--- the P1 and P2 that an instruction takes; "P1P2 6A86 (B0, D6: P1 above 7F)"
+-- the P1 and P2 that an instruction takes; "P1P2 6A86 (B0, D6: P1 above 7F)"; "INCREASE, P1P2 0000"; "04, 44 (P1P2 0000, as C0)"
 unfoldable pub parametersFit : ℕ → ℕ → ℕ → Bool
 parametersFit i p1 p2 =
     pick (eqb i ins.select)
@@ -52,6 +52,7 @@ wrongDomain i domain = eqb domain 0xFF && not (eqb i ins.getResponse)
 unfoldable pub pathLengthFits : ℕ → ℕ → Bool
 pathLengthFits p1 n = pick (eqb p1 0) (eqb n 2) (eqb (n % 2) 0 && (leb 2 n && leb n 16))
 
+-- whether SELECT found an entry
 unfoldable pub isFound : Found → Bool
 isFound (At e) = true
 isFound Nothing = false
@@ -60,7 +61,7 @@ isFound Nothing = false
 abbrev pub longestIncrease : ℕ
 longestIncrease = 127
 
--- the kinds of file that an instruction works on; "kind (INCREASE: or record above 127) 6981"
+-- the kinds of file that an instruction works on; "INCREASE, .. cyclic"; "kind (INCREASE: or record above 127) 6981"
 unfoldable pub kindFits : ℕ → Row → Bool
 kindFits i r =
     pick (isBinary i)
@@ -73,7 +74,7 @@ kindFits i r =
 abbrev pub renews : ℕ → Row → Bool
 renews i r = eqb i ins.updateRecord && isCyclic r
 
--- "DC on cyclic outside mode 03 6A86"
+-- "DC on cyclic: mode 03 only"; "DC on cyclic outside mode 03 6A86"
 abbrev pub wrongMode : ℕ → ℕ → Row → Bool
 wrongMode i p2 r = renews i r && not (eqb p2 modePrevious)
 
