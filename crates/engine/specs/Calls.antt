@@ -1,4 +1,5 @@
--- The three calls, as functions from card and arguments to answer, card and response memory.
+-- "One library runs a remote file management script against a lent card, takes the newest script back, or confirms all.": the three
+-- calls, as functions from card and arguments to answer, card and response memory.
 use Prim.Native.Nat.{ℕ, _<_}
 use mathlib.Core.Bool.{Bool, true, false}
 use mathlib.Core.List.{List, [], _++_}

@@ -1,4 +1,4 @@
--- "Call numbers. Checked in this order."
+-- "Call numbers": "Checked in this order."
 use Prim.Native.Nat.{ℕ}
 use mathlib.Core.Bool.{Bool, true, false, not, _&&_, _||_}
 use mathlib.Core.List.{List, [], _∷_}
@@ -53,6 +53,7 @@ unfoldable pub leastResponse : Format → ℕ
 leastResponse Compact = 1024
 leastResponse Expanded = 1024
 
+-- whether a script has no template
 unfoldable pub isMissing : Template → Bool
 isMissing (Definite at end) = false
 isMissing (Indefinite at end) = false
@@ -63,7 +64,7 @@ unfoldable pub templateFits : Format → List ℕ → Bool
 templateFits Compact script = true
 templateFits Expanded script = not (isMissing (templateOf script))
 
--- the first number that is given, and 0 where none is
+-- the first number that is given; "Otherwise the number is 0"
 unfoldable pub firstGiven : List Refusal → ℕ
 firstGiven [] = 0
 firstGiven (r ∷ rs) = pick (r .given) (r .number) (firstGiven rs)
@@ -100,7 +101,7 @@ startOf c a =
     let number : ℕ = firstGiven (runRefusals c a) in
     pick (eqb number 0) (scriptStart (formatOf (a .format) (a .script)) (a .script)) (starts.Refused number)
 
--- "a take-back 1 and 7"
+-- "a take-back 1 and 7"; 7: "take-back with no script on trial"
 unfoldable pub takeBackRefusals : Card → List Refusal
 takeBackRefusals c =
     notSound c ∷ record { number = 7; given = eqb (scriptsOnTrial (c .journal)) 0 } ∷ []

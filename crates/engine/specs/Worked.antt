@@ -48,20 +48,26 @@ expandedAnswer script = answerOf (runOn 0 1 script)
 
 -- "Marked * are proved, together in a single statement"
 pub record Marked : Type 0 where
+  -- "*00A4000C027F10: 019000. *00A4000C026F46: 016A82. *00B0000001: 016986. *00A400: 016700."
   pub select : compactAnswer 0 "00A4000C027F10" ≡ hex "019000"
   pub selectMissing : compactAnswer 0 "00A4000C026F46" ≡ hex "016A82"
   pub readNoFile : compactAnswer 0 "00B0000001" ≡ hex "016986"
   pub tooFew : compactAnswer 0 "00A400" ≡ hex "016700"
+  -- "S = 00A4000C027F10 00A4000C026F46."; "*S 00D60000020141: 039000, U 18; taken back, all as before."; "*S 00B0000003: 039000FFFFFF."
   pub update : compactAnswer 0 "00A4000C027F1000A4000C026F4600D60000020141" ≡ hex "039000"
   pub updateUsed : usedBytes (runOn 0 0 "00A4000C027F1000A4000C026F4600D60000020141" .card .journal) ≡ 18
   pub updateTakenBack : takeBack (runOn 0 0 "00A4000C027F1000A4000C026F4600D60000020141" .card) .card ≡ worked
   pub read : compactAnswer 0 "00A4000C027F1000A4000C026F4600B0000003" ≡ hex "039000FFFFFF"
+  -- "*00A4080C047F106F39 8032000003000005 00C0000000: 039000000005000005, newest 2, U 28; without C0: 026106."
   pub increase : compactAnswer 0 "00A4080C047F106F39803200000300000500C0000000" ≡ hex "039000000005000005"
   pub increaseNewest : rowOf (runOn 0 0 "00A4080C047F106F39803200000300000500C0000000" .card .table) 4 .newest ≡ 2
   pub increaseUsed : usedBytes (runOn 0 0 "00A4080C047F106F39803200000300000500C0000000" .card .journal) ≡ 28
   pub increaseWaits : compactAnswer 0 "00A4080C047F106F398032000003000005" ≡ hex "026106"
+  -- "*00A40004027F10 00C0000000: 029000620B8202782183027F108A0105."
   pub fcp : compactAnswer 0 "00A40004027F1000C0000000" ≡ hex "029000620B8202782183027F108A0105"
+  -- "Application 5: *00A4000C026F46 00D600000101: 026982."
   pub otherApplication : compactAnswer 5 "00A4000C026F4600D600000101" ≡ hex "026982"
+  -- "*AA00: AB03800100. *AA0255 00: AB06800101900101. *AE8022 0300A400 0000: AF809001020000."
   pub emptyTemplate : expandedAnswer "AA00" ≡ hex "AB03800100"
   pub badTag : expandedAnswer "AA025500" ≡ hex "AB06800101900101"
   pub badLength : expandedAnswer "AE80220300A4000000" ≡ hex "AF809001020000"
