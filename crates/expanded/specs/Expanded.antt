@@ -111,7 +111,7 @@ stepBad code p =
       last = badFormat code;
     }
 
--- the progress after the items from the place `at` on, `n` of them at most, in a value that ends at `end`
+-- "A script is read from front to back, once."; the progress after the items from the place `at` on, `n` of them at most, in a value that ends at `end`
 unfoldable pub runFrom : ℕ → List ℕ → ℕ → Bool → ℕ → ℕ → Progress → Progress
 runFrom zero script domain definite at end p = p
 runFrom (suc n) script domain definite at end p =
