@@ -86,7 +86,8 @@ unfoldable pub perform : List Write → Card → Card
 perform [] c = c
 perform (w ∷ ws) c = perform ws (write w c)
 
--- the journal bytes that a list of writes takes
+-- the journal bytes that a list of writes takes: "A writing command that ends well appends 8 + n for its file bytes, then 9 for a table
+-- byte."
 unfoldable pub cost : List Write → ℕ
 cost [] = 0
 cost (w ∷ ws) = entryBytes (length (w .new)) + cost ws
@@ -104,7 +105,7 @@ unfoldable pub restore : List Entry → Card → Card
 restore [] c = c
 restore (e ∷ es) c = restore es (restoreOne e c)
 
--- of entries, newest first: those newer than the newest mark
+-- of entries, newest first: those "to the newest mark"
 unfoldable pub sinceMark : List Entry → List Entry
 sinceMark [] = []
 sinceMark (e ∷ es) = pick (isMark e) [] (e ∷ sinceMark es)
@@ -123,7 +124,7 @@ bytesTaken (e ∷ es) = entryBytes (length (e .old)) + bytesTaken es
 unfoldable pub cutBack : List ℕ → Head → List ℕ
 cutBack j h = headBytes h ++ (part j headSize (h .used) ++ zeros (length j - (headSize + h .used)))
 
--- "A take-back restores entries newest first to the newest mark, drops it and zeros the freed bytes."
+-- "A take-back restores entries newest first to the newest mark, drops it and zeros the freed bytes."; "room given back is used again"
 unfoldable pub takenBack : Card → Card
 takenBack c =
     withJournal

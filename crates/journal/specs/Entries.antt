@@ -34,7 +34,7 @@ flagOf j = byte j 3
 abbrev pub headOf : List ℕ → Head
 headOf j = head (usedBytes j) (scriptsOnTrial j) (flagOf j)
 
--- the most that U can be: what is left of the journal after its head
+-- "U (at most 2,044)": what is left of the journal after its head
 unfoldable pub room : List ℕ → ℕ
 room j = length j - headSize
 
@@ -79,7 +79,7 @@ holdsTableByte = 3
 abbrev pub isMark : Entry → Bool
 isMark e = eqb (e .kind) marksStart
 
--- a script's mark
+-- "a script's start (n and place 0)": its mark
 unfoldable pub mark : Entry
 mark = entryOf marksStart 0 []
 

@@ -74,7 +74,7 @@ lastIsMark last (e ∷ es) = lastIsMark (isMark e) es
 unfoldable pub oldestIsMark : List Entry → Bool
 oldestIsMark es = lastIsMark true es
 
--- how many marks there are
+-- how many marks there are: "marks equal byte 2"
 unfoldable pub marks : List Entry → ℕ
 marks [] = 0
 marks (e ∷ es) = pick (isMark e) 1 0 + marks es
