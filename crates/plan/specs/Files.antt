@@ -50,7 +50,7 @@ previousRecord r number =
     (recordCount r)
     (pick (eqb number 1) (pick (isCyclic r) (recordCount r) none) (number - 1))
 
--- "absolute (P1, or the current one if 00"
+-- "absolute (P1, or the current one if 00, 6A83 without one"
 unfoldable pub absoluteRecord : ℕ → ℕ → ℕ
 absoluteRecord p1 number = pick (eqb p1 0) number p1
 

@@ -73,7 +73,7 @@ readBinary format c s f =
 unfoldable pub updateBinary : Command → List ℕ → Standing → File → Plan
 updateBinary c «data» s f = done s normal (writeIn f (offsetOf c) «data» ∷ [])
 
--- the record that a command names, from the current record number: A2 as B2 and DC do in their absolute mode
+-- the record that a command names, from the current record number: A2 as B2 and DC do in their absolute mode, "(00: current, or 6A83)"
 unfoldable pub namedBy : Command → ℕ → Row → ℕ
 namedBy c number r =
     pick (eqb (c .instruction) ins.search)
