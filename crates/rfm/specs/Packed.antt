@@ -1,4 +1,4 @@
--- A call's result as it crosses the C boundary: "number + 2^8 · count + 2^32 · length", and the lent memories.
+-- A call's result as it crosses the C boundary: `number + 2^8 · count + 2^32 · length`, and the lent memories.
 use Prim.Native.Nat.{ℕ, _+_, _*_, _^_, _/_, _%_}
 use mathlib.Core.List.{List}
 use Rattle.card.specs.Row.{Card}
