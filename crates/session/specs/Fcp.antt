@@ -15,26 +15,26 @@ pub record FcpFits (r : Row) : Type 0 where
   pub most : r .kind ≤ 6
   pub records : 5 ≤ r .kind → (1 ≤ r .«record_length») × (recordCount r < 256)
 
--- the file descriptor byte
+-- the file descriptor byte: "(78 directory, 41 transparent)", "(42 linear, 46 cyclic)"
 unfoldable pub descriptor : Row → ℕ
 descriptor r = pick (isDirectory r) 0x78 (pick (isTransparent r) 0x41 (pick (isLinear r) 0x42 0x46))
 
--- 82: the file descriptor
+-- "82 02 .. 21, or 82 05 .. 21, record length in 2 bytes, record count"
 unfoldable pub fcp82 : Row → List ℕ
 fcp82 r =
     pick (hasRecords r)
     (0x82 ∷ 5 ∷ descriptor r ∷ 0x21 ∷ (bytes2 (r .«record_length») ++ (recordCount r ∷ [])))
     (0x82 ∷ 2 ∷ descriptor r ∷ 0x21 ∷ [])
 
--- 83: the file identifier
+-- "83 02 identifier"
 unfoldable pub fcp83 : Row → List ℕ
 fcp83 r = 0x83 ∷ 2 ∷ bytes2 (r .identifier)
 
--- 8A: the state
+-- "8A 01 state"
 unfoldable pub fcp8A : Row → List ℕ
 fcp8A r = 0x8A ∷ 1 ∷ r .state ∷ []
 
--- 80: a file's length
+-- "for files 80 02 length"
 unfoldable pub fcp80 : Row → List ℕ
 fcp80 r = pick (isDirectory r) [] (0x80 ∷ 2 ∷ bytes2 (r .size))
 

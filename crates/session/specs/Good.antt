@@ -1,4 +1,4 @@
--- A session on a table: "its directory and its file belong to the application", and the record number is one of its file's, or none.
+-- A session on a table: its directory and its file belong to the application, and the record number is one of its file's, or none.
 use Prim.Native.Nat.{ℕ, _≤_, _<_}
 use mathlib.Core.Bool.{true}
 use mathlib.Core.Path.{_≡_}

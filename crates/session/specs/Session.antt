@@ -8,11 +8,11 @@ use Rattle.card.specs.Row.{isDirectory, isCyclic}
 use Rattle.session.specs.declared.Standing.{Standing}
 use Rattle.session.specs.declared.Session.{Session}
 
--- how many bytes can wait
+-- how many bytes can wait: "255 waiting bytes"
 abbrev pub mostWaiting : ℕ
 mostWaiting = 255
 
--- no file is current; no record number
+-- "no file is current, no record number"
 abbrev pub none : ℕ
 none = 0
 
@@ -29,7 +29,7 @@ startStanding application =
       word = 0;
     }
 
--- "A session starts with 255 waiting bytes of zero"
+-- "A session starts with 255 waiting bytes of zero, none of them valid."
 unfoldable pub startWaiting : List ℕ
 startWaiting = zeros mostWaiting
 
@@ -53,7 +53,7 @@ waits s valid word =
       word = word;
     }
 
--- "the next command drops what waited"
+-- "the next command drops what waited, C0 apart"
 abbrev pub dropped : Standing → Standing
 dropped s = waits s 0 0
 
