@@ -48,7 +48,8 @@ started application card =
       card = card;
     }
 
--- the state after one command more; "The count includes the command that stopped it."
+-- "One session's directory, file, record number and waiting bytes move on with each command."; "The count includes the command that
+-- stopped it."
 unfoldable pub stepped : State → Moved → State
 stepped st m =
     record {
