@@ -17,7 +17,7 @@ wrongLength = 2
 abbrev pub lengthMissing : ℕ
 lengthMissing = 3
 
--- a length in the form 81, with its byte at a place, and in the form 82, with its two bytes there, in bytes that end at `end`
+-- "81 80-FF, 82 0100-FFFF": a length in the form 81 or 82 whose byte or two bytes stand at a place, in bytes that end at `end`
 unfoldable pub shortLength : List ℕ → ℕ → ℕ → Length
 shortLength bs at end =
     pick (leb (at + 1) end)
@@ -51,6 +51,6 @@ unfoldable pub codeOf : Length → ℕ
 codeOf (Found n place) = 0
 codeOf (Bad code) = code
 
--- the shortest form of a length
+-- a length in its "shortest form"
 unfoldable pub lengthBytes : ℕ → List ℕ
 lengthBytes n = pick (ltb n 0x80) (n ∷ []) (pick (ltb n 0x0100) (0x81 ∷ n ∷ []) (0x82 ∷ bytes2 n))

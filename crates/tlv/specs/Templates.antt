@@ -14,12 +14,12 @@ use Rattle.tlv.specs.declared.template.Item.{Item}
 use Rattle.tlv.specs.declared.template.Item.the-variants.{Capdu, Bad, End}
 use Rattle.tlv.specs.Lengths.{lengthAt, otherTag, wrongLength}
 
--- a length that runs exactly to the end
+-- "AA, length, value to the script's end": a length that runs exactly to the end
 unfoldable pub definite : Length → ℕ → Template
 definite (length-answers.Found n at) end = pick (eqb (at + n) end) (Definite at end) Missing
 definite (length-answers.Bad code) end = Missing
 
--- AE 80, with 00 00 as the last two bytes
+-- "AE 80, value, 00 00 as the last two bytes"
 unfoldable pub indefinite : List ℕ → ℕ → Template
 indefinite script end =
     pick (leb 4 end && (eqb (byte script 1) 0x80 && (eqb (byte script (end - 2)) 0 && eqb (byte script (end - 1)) 0)))
@@ -39,11 +39,11 @@ TemplateFits script (Definite at end) = (at ≤ end) × (end ≤ script)
 TemplateFits script (Indefinite at end) = (at ≤ end) × (end ≤ script)
 TemplateFits script Missing = Unit
 
--- "tag 22 or A2 is a C-APDU"
+-- "Inside, tag 22 or A2 is a C-APDU, and the value of a TLV is a part of the script."
 unfoldable pub isCapduTag : ℕ → Bool
 isCapduTag tag = eqb tag 0x22 || eqb tag 0xA2
 
--- a C-APDU has at least four bytes
+-- a C-APDU has at least four bytes: "or below 4"
 abbrev pub leastCapdu : ℕ
 leastCapdu = 4
 
