@@ -861,7 +861,7 @@ static uint8_t never_bit(uint8_t ins)
     }
 }
 
-/* "no file 6986; kind 6981; DC on cyclic outside mode 03 6A86; deactivated 6984 (04, 44
+/* "no file 6986; kind .. 6981; DC on cyclic outside mode 03 6A86; deactivated 6984 (04, 44
  * exempt); NEVER bit 6982". */
 static unsigned file_fault(const struct session *session, const uint8_t *entry,
                            const struct command *command)
@@ -881,8 +881,8 @@ static unsigned file_fault(const struct session *session, const uint8_t *entry,
     return NO_FAULT;
 }
 
-/* "offset not below length 6B00, record 6A83; lengths against file or record 6700; sum too
- * long 9850", then what the command does. */
+/* "offset not below length 6B00, record 6A83; lengths against file or record 6700 ..;
+ * sum too long 9850", then what the command does. */
 static unsigned use_file(const struct card *card, struct session *session,
                          const struct command *command, struct outcome *outcome)
 {
@@ -909,7 +909,7 @@ static unsigned use_file(const struct card *card, struct session *session,
     }
 }
 
-/* "P1P2 6A86; domain FF 6982 (C0 exempt); ...; journal 6581." Nothing of the card and no
+/* "P1P2 6A86 ..; domain FF 6982 (C0 exempt); .. journal 6581." Nothing of the card and no
  * valid part of the session is changed yet. */
 static unsigned decide(const struct card *card, struct session *session,
                        const struct command *command, struct outcome *outcome)
@@ -983,7 +983,7 @@ static size_t read_compact(const uint8_t *at, size_t left, struct command *comma
     return HEADER_SIZE + lc;
 }
 
-/* "unknown instruction 6D00; class 6E00; compact B0, B2, C0 with bytes after it 6985; ...
+/* "unknown instruction 6D00; class 6E00; compact B0, B2, C0 with bytes after it 6985; ..
  * Lc 0, or P3 of 04, 44, 6700". */
 static unsigned compact_fault(const struct command *command, size_t after)
 {
@@ -1170,8 +1170,8 @@ static unsigned needed_case(const struct command *command)
     }
 }
 
-/* "broken form (... no case's size) 6700; unknown instruction 6D00; class 6E00; ... wrong
- * case, Lc 0 ... 6700". Only case 4 can have Lc 0. */
+/* "broken form (.. no case's size) 6700; unknown instruction 6D00; class 6E00; .. wrong
+ * case, Lc 0, .. 6700". Only case 4 can have Lc 0. */
 static unsigned expanded_fault(const struct command *command, unsigned by_size)
 {
     if (by_size == BAD_SIZE)

@@ -43,7 +43,7 @@ static void increase_case(void)
     compact("worked: increase without C0", "00A4080C047F106F39 8032000003000005", "026106");
 }
 
-/* "Application 5: 00A4000C026F46 00D600000101: 026982. 00A4000C023F00: 016A82." */
+/* "Application 5: *00A4000C026F46 00D600000101: 026982. 00A4000C023F00: 016A82." */
 static void application_five(void)
 {
     static struct card_bytes w;

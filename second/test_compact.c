@@ -51,7 +51,7 @@ static void form(void)
     in("20: P3 of 04 before the domain", SHARED, CLOSED, "0004000001", "016700");
 }
 
-/* "P1P2 6A86; domain FF 6982 (C0 exempt); no file 6986". */
+/* "P1P2 6A86 ..; domain FF 6982 (C0 exempt); no file 6986". */
 static void p1p2_domain_file(void)
 {
     static const struct {
@@ -145,7 +145,7 @@ static void waiting(void)
             "03900000000505");
 }
 
-/* Point 22: "At most 254 bytes ever wait." */
+/* Point 22: at most 254 bytes ever wait. */
 static void most_waiting(void)
 {
     static struct card_bytes c;

@@ -341,7 +341,7 @@ static void states(void)
     compact_on(&c, "44 of a deactivated file, NEVER", S "0044000000", "036982");
 }
 
-/* "kind 6981; ...; deactivated 6984; NEVER bit 6982; offset 6B00, record 6A83; 6700". */
+/* "kind .. 6981; .. deactivated 6984 ..; NEVER bit 6982; offset .. 6B00, record 6A83; .. 6700". */
 static void order(void)
 {
     static struct card_bytes c;

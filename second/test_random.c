@@ -45,8 +45,8 @@ static struct reply take_step(struct card_bytes *c, const struct step *step)
     return run(c, step->application, step->domain, step->format, &script, step->response_length);
 }
 
-/* "The same answer is number, length, count and the whole response memory, with the same response
- * memory lent." */
+/* Point 51: the same answer is number, length, count and the whole response memory, with the same
+ * response memory lent. */
 static bool same_answer(const struct reply *a, const struct reply *b)
 {
     return a->number == b->number && a->length == b->length && a->count == b->count &&
