@@ -1,5 +1,6 @@
 pub mod Lent
 pub mod Outgoing
+pub mod Stops
 pub mod Readers
 pub mod ReaderCalls
 pub mod Walked

@@ -1,26 +1,14 @@
 -- "A command ends well, with or without data, or with an error word, changing nothing."
-use Prim.Native.Nat.{ℕ, _+_}
-use mathlib.Core.Bool.{Bool, _&&_, _||_}
+use Prim.Native.Nat.{ℕ}
+use mathlib.Core.Bool.{Bool, true, false, _&&_, _||_}
 use mathlib.Core.List.{List, []}
 use lib.ListN.{take}
 use lib.Dec.{leb, eqb}
 use Rattle.octets.specs.Bytes.{part}
+pub use Rattle.session.specs.Words.{normal, endOfData, selectedDeactivated, bytesWait}
 use Rattle.command.specs.declared.Outcome.{Outcome}
 use Rattle.command.specs.declared.Outcome.the-variants.{Well, FromFiles, FromWaiting, Error}
 use Rattle.command.specs.Checks.{checkWord}
-
--- the paper's words that end a command well
-abbrev pub normal : ℕ
-normal = 0x9000
-
-abbrev pub endOfData : ℕ
-endOfData = 0x6282
-
-abbrev pub selectedDeactivated : ℕ
-selectedDeactivated = 0x6283
-
-abbrev pub bytesWait : ℕ → ℕ
-bytesWait n = 0x6100 + n
 
 -- the word of an outcome: "When an answer is an enum, a definition provides this paper's number and values for each of the enum's cases."
 abbrev pub wordOf : Outcome → ℕ
@@ -42,6 +30,13 @@ dataCount (Well word) = 0
 dataCount (FromFiles word place n) = n
 dataCount (FromWaiting word n) = n
 dataCount (Error k) = 0
+
+-- whether a command ended with an error word
+abbrev pub isError : Outcome → Bool
+isError (Well word) = false
+isError (FromFiles word place n) = false
+isError (FromWaiting word n) = false
+isError (Error k) = true
 
 -- "9000, 6282, 6283 and 61xx go on; every other word stops the script."
 abbrev pub goesOn : ℕ → Bool

@@ -1,12 +1,12 @@
--- What a command plans on a sound card, by its instruction: its writes are of a sound form where they go, its session is good, and,
--- if P3 is a byte, the data of its outcome lie in the file memory or in the waiting bytes.
+-- What a command plans on a sound card, by its instruction, fits: its writes are of a sound form and go into its root's own entries, its
+-- session is good, its data lie where they may, and its word stops the script just where it is an error.
 -- A plan is that of a check that failed, which writes nothing (`fit-failed`), or that of the instruction where every check is
 -- passed (`of-planned`). The second goes by the instruction (`by-instruction`): the checks of a file command that are passed put
 -- its offset, its record or its length inside the file, and with that the law of `Fit` for the instruction holds (`by-read` and the
--- others); SELECT and GET RESPONSE need no check for it. Assumes nothing.
+-- others); GET RESPONSE rests on bytes that wait, and SELECT on no check. Assumes nothing.
 use mathlib.Core.Path.{_≡_, refl}
 use mathlib.Core.Bool.{true, false}
-use mathlib.Core.List.{List}
+use mathlib.Core.List.{List, _++_}
 use Prim.Native.Nat.{ℕ, _≤_}
 use lib.Dec.{eqb}
 use lib.ListN.{length}
@@ -22,16 +22,30 @@ use Rattle.command.specs.declared.Format.{Format}
 use Rattle.command.specs.declared.Command.{Command}
 use Rattle.command.specs.declared.checks.Checked.the-variants.{Passed}
 use Rattle.command.specs.Instructions as ins
-use Rattle.command.specs.Instructions.{isRecord}
+use Rattle.command.specs.Instructions.{isKnown, isRecord}
 use Rattle.plan.specs.Files.{fileAt}
 use Rattle.plan.specs.Plans.{Situation, offsetOf, readBinary, updateBinary, namedBy, readRecord, updateRecord, search, increase, doneBy}
-use Rattle.decide.specs.Order.{order}
+use Rattle.decide.specs.Order.{formalChecks, responseChecks, order}
 use Rattle.decide.specs.Fails.{fails, firstFailing, renews}
 use Rattle.decide.specs.Decisions.{situation, planned}
-use Rattle.decide.proofs.Order.{record-kind}
+use Rattle.decide.proofs.Order.{later-response, record-kind}
 use Rattle.decide.proofs.Instructed.{of-planned, by-instruction}
-use Rattle.decide.proofs.Passing.{Passes, passed, data-some, kind-increased, offset-read, length-binary, length-record, length-increased, named-there}
+use Rattle.decide.proofs.Passing.{AllPass, all-pass, Passes, passed, data-some, kind-increased, offset-read, length-binary, length-record, length-increased, named-there}
 use Rattle.plan.proofs.Fit.{Fit, fit-failed, fit-response, fit-read, fit-select, fit-update, fit-switch, fit-record, fit-rewrite, fit-search, fit-increase}
+
+-- GET RESPONSE, the last of the instructions that there are: where its checks are passed, bytes wait
+waits-passed : (w : Situation) → AllPass w (formalChecks ++ responseChecks) → eqb (w .session .valid) 0 ≡ false
+unfolding formalChecks responseChecks fails
+waits-passed w (_, (_, (_, (_, (_, (_, (_, (waits, _)))))))) = waits
+
+response-waits : (w : Situation) → (isKnown (w .command .instruction) ≡ true → w .command .instruction ≡ ins.getResponse) → firstFailing w (order (w .command .instruction)) ≡ Passed → 1 ≤ w .session .valid
+unfolding order formalChecks fails
+response-waits w last h =
+    let i = w .command .instruction in
+    let known = all-pass w (order i) h .1 .0 in
+    let all = all-pass w (formalChecks ++ responseChecks) (rw (later-response i (last (not-false _ known))) at h) in
+    let z = eqb-false (w .session .valid) 0 (waits-passed w all) in
+    omega arith
 
 module _ (format : Format) (domain : ℕ) (c : Command) («data» : List ℕ) (s : Standing) (card : Card) (sound : soundTable (card .table) (card .files) ≡ true) (good : Good (card .table) s) where
   -- a command on a file, all of whose checks are passed
@@ -51,32 +65,32 @@ module _ (format : Format) (domain : ℕ) (c : Command) («data» : List ℕ) (s
     unfolding fails situation fileAt
     named y z = named-there c (s .«record_number») r y z (p .«record»)
 
-    by-read : c .instruction ≡ ins.readBinary → Fit card c (readBinary format c s (fileAt card (s .file)))
+    by-read : c .instruction ≡ ins.readBinary → Fit card (s .root) c (readBinary format c s (fileAt card (s .file)))
     unfolding fails situation fileAt
     by-read e = fit-read card sound c s good some-file format (offset-read (c .instruction) r (offsetOf c) e (p .offset))
 
-    by-update : c .instruction ≡ ins.updateBinary → length «data» ≤ 255 → Fit card c (updateBinary c «data» s (fileAt card (s .file)))
+    by-update : c .instruction ≡ ins.updateBinary → length «data» ≤ 255 → Fit card (s .root) c (updateBinary c «data» s (fileAt card (s .file)))
     unfolding fails situation fileAt
     by-update e brief =
         fit-update card sound c s good some-file «data» (data-some c (length «data») (rw e) (p .case)) brief
         (length-binary (c .instruction) r (offsetOf c) (c .p3) (length «data») (not-false _ (p .length)) e)
 
-    by-record : c .instruction ≡ ins.readRecord → Fit card c (readRecord c s (fileAt card (s .file)))
+    by-record : c .instruction ≡ ins.readRecord → Fit card (s .root) c (readRecord c s (fileAt card (s .file)))
     by-record e = fit-record card sound c s good some-file (has-records (rw e)) (named (rw e) (rw e) .1)
 
-    by-rewrite : c .instruction ≡ ins.updateRecord → Fit card c (updateRecord c «data» s (fileAt card (s .file)))
+    by-rewrite : c .instruction ≡ ins.updateRecord → Fit card (s .root) c (updateRecord c «data» s (fileAt card (s .file)))
     unfolding fails situation fileAt
     by-rewrite e =
         fit-rewrite card sound c s good some-file (has-records (rw e)) «data»
         (length-record (c .instruction) r (offsetOf c) (c .p3) (length «data») (not-false _ (p .length)) e)
         (λ n. named (rw e) (rw (e, n)) .1)
 
-    by-search : c .instruction ≡ ins.search → Fit card c (search format c «data» s (fileAt card (s .file)))
+    by-search : c .instruction ≡ ins.search → Fit card (s .root) c (search format c «data» s (fileAt card (s .file)))
     by-search e =
         let n = named (rw e) (rw e) in
         fit-search card sound c s good some-file (has-records (rw e)) format «data» (n .0) (n .1)
 
-    by-increase : c .instruction ≡ ins.increase → Fit card c (increase format «data» s (fileAt card (s .file)))
+    by-increase : c .instruction ≡ ins.increase → Fit card (s .root) c (increase format «data» s (fileAt card (s .file)))
     unfolding fails situation fileAt
     by-increase e =
         let k = kind-increased (c .instruction) r e (not-false _ (p .kind)) in
@@ -91,10 +105,10 @@ module _ (format : Format) (domain : ℕ) (c : Command) («data» : List ℕ) (s
     checked : {x : ℕ} → c .instruction ≡ x → eqb x ins.select ≡ false → eqb x ins.getResponse ≡ false → Passes w
     checked e a b = passed w (c .instruction) (rw e a) (rw e b) h
 
-    fit-done : Fit card c (doneBy (c .instruction) w)
+    fit-done : Fit card (s .root) c (doneBy (c .instruction) w)
     unfolding situation
     fit-done =
-        by-instruction (Fit card c) w (c .instruction)
+        by-instruction (Fit card (s .root) c) w (c .instruction)
         (λ e. fit-select card sound c s good format (c .p1) (c .p2) «data» _ refl)
         (λ e. by-read (checked e refl refl) e)
         (λ e. by-update (checked e refl refl) e brief)
@@ -104,8 +118,8 @@ module _ (format : Format) (domain : ℕ) (c : Command) («data» : List ℕ) (s
         (λ e. by-increase (checked e refl refl) e)
         (λ e. fit-switch card sound c s good (some-file (checked e refl refl)) deactivated refl)
         (λ e. fit-switch card sound c s good (some-file (checked e refl refl)) activated refl)
-        (λ _. fit-response card c s good)
+        (λ last. fit-response card c s good (response-waits w last h))
 
-  pub planned-fit : length «data» ≤ 255 → Fit card c (planned w)
+  pub planned-fit : length «data» ≤ 255 → Fit card (s .root) c (planned w)
   unfolding situation
-  planned-fit brief = of-planned (Fit card c) w (fit-failed card c s good) (fit-done brief)
+  planned-fit brief = of-planned (Fit card (s .root) c) w (fit-failed card c s good) (fit-done brief)

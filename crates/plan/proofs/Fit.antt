@@ -1,13 +1,15 @@
--- The plan of each instruction: what it writes is of a sound form where it goes, its session is good, and, if P3 is a byte, the
--- data of its outcome lie in the file memory or in the waiting bytes.
+-- The plan of each instruction: what it writes is of a sound form where it goes, and goes into bytes of its root's own entries; its
+-- session is good, and of the same root; if P3 is a byte, the data of its outcome lie in the file memory or in the waiting bytes, those
+-- of the file memory in the current file; and its word stops the script just where it is an error.
 -- Every plan but that of GET RESPONSE ends in one of four ways, and each of them fits where its writes, its session and its data do
 -- (`fit-failed`, `fit-done`, `fit-handed`, `fit-produced`). So of each instruction it is left to show where its bytes lie: the file
--- lies in the file memory and a record in the file, as the table is sound; what is written is of a sound form by the laws of
--- `Placed`; what is made is at most 255 bytes; and the session moves to an entry that was found, or to a record that the file has.
+-- lies in the file memory and a record in the file, as the table is sound; what is written sits right by the laws of `Placed`; what is
+-- made is at most 255 bytes; and the session moves to an entry that was found, or to a record that the file has.
 -- Assumes nothing.
-use mathlib.Core.Path.{_≡_}
-use mathlib.Core.Bool.{true, false}
+use mathlib.Core.Path.{_≡_, refl, subst}
+use mathlib.Core.Bool.{true, false, not}
 use mathlib.Core.List.{List, [], _∷_, _++_}
+use mathlib.Core.Logic.{inl, inr}
 use Prim.Native.Nat.{ℕ, _+_, _-_, _≤_, _<_, min}
 use native.Mathlib.Nat.{min-le-left, min-le-right}
 use native.Mathlib.Omega.{arith}
@@ -19,78 +21,160 @@ use Rattle.octets.proofs.Numbers.{bytesOf-length}
 use Rattle.card.specs.declared.Row.{Row}
 use Rattle.card.specs.declared.tree.Found.{Found}
 use Rattle.card.specs.declared.tree.Found.the-variants.{At, Nothing}
-use Rattle.card.specs.Row.{Card, rowOf, isFile, isCyclic, hasRecords}
+use Rattle.card.specs.Row.{Card, rowOf, isFile, isCyclic, hasRecords, isDeactivated}
 use Rattle.card.specs.Sound.{recordCount, stateSound, ownSound, soundTable}
 use Rattle.card.proofs.Promises.{file-inside, record-short, records-some, records-few, entry-own}
 use Rattle.journal.specs.Changes.{Write}
+use Rattle.journal.proofs.Written.{All}
 use Rattle.journal.proofs.Kept.{AllForms}
 use Rattle.session.specs.declared.Standing.{Standing}
-use Rattle.session.specs.Session.{atRecord, selected}
+use Rattle.session.specs.Words.{CanBeKept}
+use Rattle.session.specs.Session.{waits, atRecord, selected}
 use Rattle.session.specs.Select.{find, rowFound}
 use Rattle.session.specs.Fcp.{fcp}
 use Rattle.session.specs.Good.{Belongs, GoodFile, Good}
-use Rattle.session.proofs.Good.{good-record, good-waits, good-dropped, good-selected, find-belongs}
+use Rattle.session.proofs.Good.{selected-root, good-record, good-waits, good-dropped, good-selected, find-belongs}
 use Rattle.session.proofs.Template.{fcp-short}
 use Rattle.command.specs.declared.Format.{Format}
 use Rattle.command.specs.declared.Format.the-variants.{Compact, Expanded}
 use Rattle.command.specs.declared.Command.{Command}
 use Rattle.command.specs.declared.checks.Check.{Check}
 use Rattle.command.specs.declared.checks.Check.the-variants.{NotFound}
+use Rattle.command.specs.Outcomes.{normal, endOfData, selectedDeactivated, wordOf, isError, goesOn}
 use Rattle.command.specs.Promised.{mostData, OutcomeFits}
+use Rattle.command.proofs.Stops.{check-stops, kept-goes, wait-goes}
 use Rattle.plan.specs.Ends.{Plan, failed, done, handed, produced}
 use Rattle.plan.specs.Files.{fileAt, numberAfter, sum}
-use Rattle.plan.specs.Plans.{offsetOf, selectEntry, select, mostRead, readBinary, updateBinary, namedBy, atNamed, readRecord, updateRecord, searched, search, increase, switch, getResponse}
-use Rattle.plan.proofs.Placed.{in-file, record-inside, in-record, in-newest, in-state}
+use Rattle.plan.specs.Plans.{selectWord, offsetOf, selectEntry, select, mostRead, readBinary, updateBinary, namedBy, atNamed, readRecord, updateRecord, searched, search, increase, switch, getResponse}
+use Rattle.plan.proofs.Own.{AllOwn, ReadsOwn}
+use Rattle.plan.proofs.Placed.{Sits, sit-forms, sit-own, in-file, record-inside, in-record, in-newest, in-state}
 use Rattle.plan.proofs.Noted.{First, found-few, found-first}
 
--- a plan of a command
-pub record Fit (card : Card) (c : Command) (p : Plan) : Type 0 where
+-- a plan of a command in a session of a root
+pub record Fit (card : Card) (root : ℕ) (c : Command) (p : Plan) : Type 0 where
   pub forms : AllForms (p .writes) card
+  pub own : AllOwn root (p .writes) card
+  pub stays : p .session .root ≡ root
   pub good : Good (card .table) (p .session)
   pub made : length (p .made) ≤ 255
   pub outcome : c .p3 < 256 → OutcomeFits (length (card .files)) (p .outcome)
+  pub reads : ReadsOwn (card .table) (p .session .file) (p .outcome)
+  pub stops : goesOn (wordOf (p .outcome)) ≡ not (isError (p .outcome))
 
 most-read : (format : Format) → mostRead format ≤ mostData
 unfolding mostRead
 most-read Compact = omega arith
 most-read Expanded = omega arith
 
+-- "A deactivated file gives 6283."
+select-kept : (r : Row) → CanBeKept (selectWord r)
+unfolding selectWord
+select-kept r = on-pick CanBeKept (isDeactivated r) selectedDeactivated normal (λ y. inr refl) (λ n. inl refl)
+
 -- the ways in which a plan ends
 module _ (card : Card) (c : Command) (s : Standing) (good : Good (card .table) s) where
-  pub fit-failed : (k : Check) → Fit card c (failed s k)
-  unfolding failed OutcomeFits
-  fit-failed k = record { forms = tt; good = good; made = omega arith; outcome = λ b. tt }
+  abbrev t : List ℕ
+  t = card .table
 
-  fit-done : (word : ℕ) (ws : List Write) → AllForms ws card → Fit card c (done s word ws)
-  unfolding done OutcomeFits
-  fit-done word ws forms = record { forms = forms; good = good-dropped (card .table) s good; made = omega arith; outcome = λ b. tt }
+  pub fit-failed : (k : Check) → Fit card (s .root) c (failed s k)
+  unfolding failed OutcomeFits ReadsOwn
+  fit-failed k =
+      record {
+        forms = tt;
+        own = tt;
+        stays = refl;
+        good = good;
+        made = omega arith;
+        outcome = λ b. tt;
+        reads = tt;
+        stops = check-stops k;
+      }
 
-  fit-handed : (word place n : ℕ) → place + n ≤ length (card .files) → (c .p3 < 256 → n ≤ 256) → Fit card c (handed s word place n)
-  unfolding handed OutcomeFits
-  fit-handed word place n inside few = record { forms = tt; good = good-dropped (card .table) s good; made = omega arith; outcome = λ b. (inside, few b) }
+  fit-done : (word : ℕ) (ws : List Write) → goesOn word ≡ true → All (Sits (s .root)) ws card → Fit card (s .root) c (done s word ws)
+  unfolding done OutcomeFits ReadsOwn waits
+  fit-done word ws goes sit =
+      record {
+        forms = sit-forms (s .root) ws card sit;
+        own = sit-own (s .root) ws card sit;
+        stays = refl;
+        good = good-dropped t s good;
+        made = omega arith;
+        outcome = λ b. tt;
+        reads = tt;
+        stops = goes;
+      }
 
-  fit-produced : (format : Format) (word : ℕ) (d : List ℕ) (ws : List Write) → length d ≤ 255 → AllForms ws card → Fit card c (produced format s word d ws)
-  unfolding produced OutcomeFits
-  fit-produced Compact word d ws few forms = record { forms = forms; good = good-waits (card .table) s good (length d) word few; made = few; outcome = λ b. tt }
-  fit-produced Expanded word d ws few forms = record { forms = forms; good = good-dropped (card .table) s good; made = few; outcome = λ b. few }
+  fit-handed : (word place n : ℕ) → goesOn word ≡ true → (1 ≤ s .file) × (rowOf t (s .file) .start ≤ place) × (place + n ≤ rowOf t (s .file) .start + rowOf t (s .file) .size)
+      → place + n ≤ length (card .files) → (c .p3 < 256 → n ≤ 256) → Fit card (s .root) c (handed s word place n)
+  unfolding handed OutcomeFits ReadsOwn waits
+  fit-handed word place n goes its inside few =
+      record {
+        forms = tt;
+        own = tt;
+        stays = refl;
+        good = good-dropped t s good;
+        made = omega arith;
+        outcome = λ b. (inside, few b);
+        reads = its;
+        stops = goes;
+      }
 
-  -- GET RESPONSE
-  pub fit-response : Fit card c (getResponse c s)
-  unfolding getResponse OutcomeFits
-  fit-response =
-      record { forms = tt; good = good; made = omega arith; outcome = λ b. on-pick (λ n. n ≤ 255) _ (s .valid) (c .p3) (λ e. good .valid) (λ e. omega arith) }
+  fit-produced : (format : Format) (word : ℕ) (d : List ℕ) (ws : List Write) → CanBeKept word → length d ≤ 255 → All (Sits (s .root)) ws card → Fit card (s .root) c (produced format s word d ws)
+  unfolding produced OutcomeFits ReadsOwn waits
+  fit-produced Compact word d ws kept few sit =
+      record {
+        forms = sit-forms (s .root) ws card sit;
+        own = sit-own (s .root) ws card sit;
+        stays = refl;
+        good = good-waits t s good (length d) word few (λ h. kept);
+        made = few;
+        outcome = λ b. tt;
+        reads = tt;
+        stops = wait-goes (length d) few;
+      }
+  fit-produced Expanded word d ws kept few sit =
+      record {
+        forms = sit-forms (s .root) ws card sit;
+        own = sit-own (s .root) ws card sit;
+        stays = refl;
+        good = good-dropped t s good;
+        made = few;
+        outcome = λ b. few;
+        reads = tt;
+        stops = kept-goes word kept;
+      }
+
+  -- GET RESPONSE, where bytes wait
+  pub fit-response : 1 ≤ s .valid → Fit card (s .root) c (getResponse c s)
+  unfolding getResponse OutcomeFits ReadsOwn
+  fit-response some =
+      record {
+        forms = tt;
+        own = tt;
+        stays = refl;
+        good = good;
+        made = omega arith;
+        outcome = λ b. on-pick (λ n. n ≤ 255) _ (s .valid) (c .p3) (λ e. good .valid) (λ e. omega arith);
+        reads = tt;
+        stops = kept-goes (s .word) (good .word some);
+      }
 
 module _ (card : Card) (sound : soundTable (card .table) (card .files) ≡ true) (c : Command) (s : Standing) (good : Good (card .table) s) where
   -- SELECT
-  entry-selected : (format : Format) (p2 e : ℕ) → Belongs (card .table) (s .root) e → Fit card c (selectEntry format s p2 e (rowOf (card .table) e))
+  entry-selected : (format : Format) (p2 e : ℕ) → Belongs (card .table) (s .root) e → Fit card (s .root) c (selectEntry format s p2 e (rowOf (card .table) e))
   unfolding selectEntry
   entry-selected format p2 e b =
-      let after = selected s e (rowOf (card .table) e) in
+      let r = rowOf (card .table) e in
+      let after = selected s e r in
       let g = good-selected (card .table) (card .files) sound s good e b in
-      let short = fcp-short (rowOf (card .table) e) in
-      on-pick (Fit card c) _ _ _ (λ y. fit-done card c after g _ [] tt) (λ y. fit-produced card c after g format _ (fcp (rowOf (card .table) e)) [] (omega arith) tt)
+      let short = fcp-short r in
+      let word = select-kept r in
+      subst (λ (k : ℕ). Fit card k c (selectEntry format s p2 e r)) (selected-root s e r)
+      (on-pick (Fit card (after .root) c) _ _ _
+      (λ y. fit-done card c after g _ [] (kept-goes (selectWord r) word) tt)
+      (λ y. fit-produced card c after g format _ (fcp r) [] word (omega arith) tt))
 
-  pub fit-select : (format : Format) (p1 p2 : ℕ) («data» : List ℕ) (found : Found) → find (card .table) (s .root) (s .directory) p1 «data» ≡ found → Fit card c (select format s p2 (rowFound (card .table) found) found)
+  pub fit-select : (format : Format) (p1 p2 : ℕ) («data» : List ℕ) (found : Found) → find (card .table) (s .root) (s .directory) p1 «data» ≡ found → Fit card (s .root) c (select format s p2 (rowFound (card .table) found) found)
   unfolding select rowFound
   fit-select format p1 p2 «data» (At e) f = entry-selected format p2 e (find-belongs (card .table) (card .files) sound s good p1 «data» e f)
   fit-select format p1 p2 «data» Nothing f = fit-failed card c s good NotFound
@@ -106,27 +190,27 @@ module _ (card : Card) (sound : soundTable (card .table) (card .files) ≡ true)
     own : ownSound (length (card .files)) r ≡ true
     own = entry-own (card .table) (card .files) sound (s .file) (file .belongs .inside)
 
-    pub fit-read : (format : Format) → offsetOf c < r .size → Fit card c (readBinary format c s (fileAt card (s .file)))
+    pub fit-read : (format : Format) → offsetOf c < r .size → Fit card (s .root) c (readBinary format c s (fileAt card (s .file)))
     unfolding readBinary fileAt
     fit-read format below =
         let left : ℕ = r .size - offsetOf c in
-        on-pick (Fit card c) _ _ _
-        (λ e. handed-here _ (min left (mostRead format)) (min-le-left left (mostRead format)) (λ b. omega (arith, min-le-right left (mostRead format), most-read format)))
-        (λ e. on-pick (Fit card c) _ _ _ (λ y. handed-here _ (c .p3) (leb-true (c .p3) left y) (λ b. omega arith)) (λ n. handed-here _ left (omega arith) (λ b. omega (arith, leb-false (c .p3) left n))))
+        on-pick (Fit card (s .root) c) _ _ _
+        (λ e. handed-here normal (min left (mostRead format)) refl (min-le-left left (mostRead format)) (λ b. omega (arith, min-le-right left (mostRead format), most-read format)))
+        (λ e. on-pick (Fit card (s .root) c) _ _ _ (λ y. handed-here normal (c .p3) refl (leb-true (c .p3) left y) (λ b. omega arith)) (λ n. handed-here endOfData left refl (omega arith) (λ b. omega (arith, leb-false (c .p3) left n))))
       where
-        handed-here : (word n : ℕ) → n ≤ r .size - offsetOf c → (c .p3 < 256 → n ≤ 256) → Fit card c (handed s word (r .start + offsetOf c) n)
-        handed-here word n most few =
+        handed-here : (word n : ℕ) → goesOn word ≡ true → n ≤ r .size - offsetOf c → (c .p3 < 256 → n ≤ 256) → Fit card (s .root) c (handed s word (r .start + offsetOf c) n)
+        handed-here word n goes most few =
             let inside = file-inside (length (card .files)) r own (file .isFile) in
-            fit-handed card c s good word _ n (omega arith) few
+            fit-handed card c s good word _ n goes (some, omega arith, omega arith) (omega arith) few
 
-    pub fit-update : («data» : List ℕ) → 1 ≤ length «data» → length «data» ≤ 255 → offsetOf c + length «data» ≤ r .size → Fit card c (updateBinary c «data» s (fileAt card (s .file)))
+    pub fit-update : («data» : List ℕ) → 1 ≤ length «data» → length «data» ≤ 255 → offsetOf c + length «data» ≤ r .size → Fit card (s .root) c (updateBinary c «data» s (fileAt card (s .file)))
     unfolding updateBinary
     fit-update «data» least most fits =
-        fit-done card c s good _ _ (in-file card sound (s .file) (file .belongs .inside) (file .isFile) (offsetOf c) «data» least most fits, tt)
+        fit-done card c s good _ _ refl (in-file card sound (s .root) (s .file) (file .belongs) (file .isFile) (offsetOf c) «data» least most fits, tt)
 
-    pub fit-switch : (state : ℕ) → stateSound state ≡ true → Fit card c (switch state s (fileAt card (s .file)))
+    pub fit-switch : (state : ℕ) → stateSound state ≡ true → Fit card (s .root) c (switch state s (fileAt card (s .file)))
     unfolding switch fileAt
-    fit-switch state ok = fit-done card c s good _ _ (in-state card sound (s .file) (file .belongs .inside) (file .isFile) state ok, tt)
+    fit-switch state ok = fit-done card c s good _ _ refl (in-state card sound (s .root) (s .file) (file .belongs) (file .isFile) state ok, tt)
 
     -- and it has records
     module _ (has : hasRecords r ≡ true) where
@@ -139,39 +223,39 @@ module _ (card : Card) (sound : soundTable (card .table) (card .files) ≡ true)
           good-record (card .table) s good _
           (on-pick (λ k. 1 ≤ k → (1 ≤ s .file) × (hasRecords r ≡ true) × (k ≤ recordCount r)) _ (s .«record_number») n (λ y h. (some, has, file .within h)) (λ y h. (some, has, most)))
 
-      pub fit-record : namedBy c (s .«record_number») r ≤ recordCount r → Fit card c (readRecord c s (fileAt card (s .file)))
-      unfolding readRecord fileAt
+      pub fit-record : namedBy c (s .«record_number») r ≤ recordCount r → Fit card (s .root) c (readRecord c s (fileAt card (s .file)))
+      unfolding readRecord fileAt atNamed atRecord
       fit-record most =
           let short = record-short (length (card .files)) r own has in
-          fit-handed card c _ (at-named (namedBy c (s .«record_number») r) most) _ _ _
-          (record-inside card sound (s .file) (file .belongs .inside) has (namedBy c (s .«record_number») r))
-          (λ b. omega arith)
+          let inside = file-inside (length (card .files)) r own (file .isFile) in
+          let within = record-inside card sound (s .root) (s .file) (file .belongs) has (namedBy c (s .«record_number») r) in
+          fit-handed card c _ (at-named (namedBy c (s .«record_number») r) most) _ _ _ refl (some, omega arith, omega arith) (omega arith) (λ b. omega arith)
 
-      pub fit-rewrite : («data» : List ℕ) → length «data» ≡ r .«record_length» → (isCyclic r ≡ false → namedBy c (s .«record_number») r ≤ recordCount r) → Fit card c (updateRecord c «data» s (fileAt card (s .file)))
-      unfolding updateRecord fileAt
+      pub fit-rewrite : («data» : List ℕ) → length «data» ≡ r .«record_length» → (isCyclic r ≡ false → namedBy c (s .«record_number») r ≤ recordCount r) → Fit card (s .root) c (updateRecord c «data» s (fileAt card (s .file)))
+      unfolding updateRecord fileAt atNamed atRecord
       fit-rewrite «data» fits most =
-          on-pick (Fit card c) _ _ _
-          (λ y. fit-done card c _ (at-number 1 (records-some (length (card .files)) r own has)) _ _ (in-newest card sound (s .file) (file .belongs .inside) has «data» fits y))
-          (λ n. fit-done card c _ (at-named (namedBy c (s .«record_number») r) (most n)) _ _ (in-record card sound (s .file) (file .belongs .inside) has «data» fits (namedBy c (s .«record_number») r), tt))
+          on-pick (Fit card (s .root) c) _ _ _
+          (λ y. fit-done card c _ (at-number 1 (records-some (length (card .files)) r own has)) _ _ refl (in-newest card sound (s .root) (s .file) (file .belongs) has «data» fits y))
+          (λ n. fit-done card c _ (at-named (namedBy c (s .«record_number») r) (most n)) _ _ refl (in-record card sound (s .root) (s .file) (file .belongs) has «data» fits (namedBy c (s .«record_number») r), tt))
 
-      fit-found : (format : Format) (ns : List ℕ) → length ns ≤ recordCount r → First (recordCount r) ns → Fit card c (searched format s ns)
-      unfolding searched
-      fit-found format [] few first = fit-done card c s good _ [] tt
+      fit-found : (format : Format) (ns : List ℕ) → length ns ≤ recordCount r → First (recordCount r) ns → Fit card (s .root) c (searched format s ns)
+      unfolding searched atRecord
+      fit-found format [] few first = fit-done card c s good _ [] refl tt
       fit-found format (n ∷ ns) few first =
-          fit-produced card c (atRecord s n) (at-number n (first .1)) format _ (n ∷ ns) [] (omega (arith, records-few (length (card .files)) r own has)) tt
+          fit-produced card c (atRecord s n) (at-number n (first .1)) format _ (n ∷ ns) [] (inl refl) (omega (arith, records-few (length (card .files)) r own has)) tt
 
-      pub fit-search : (format : Format) («data» : List ℕ) → 1 ≤ namedBy c (s .«record_number») r → namedBy c (s .«record_number») r ≤ recordCount r → Fit card c (search format c «data» s (fileAt card (s .file)))
+      pub fit-search : (format : Format) («data» : List ℕ) → 1 ≤ namedBy c (s .«record_number») r → namedBy c (s .«record_number») r ≤ recordCount r → Fit card (s .root) c (search format c «data» s (fileAt card (s .file)))
       unfolding search fileAt
       fit-search format «data» least most =
           let content = part (card .files) (r .start) (r .size) in
           fit-found format _ (found-few r content (c .p2) «data» (namedBy c (s .«record_number») r) least most) (found-first r content (c .p2) «data» (namedBy c (s .«record_number») r) least most)
 
-      pub fit-increase : (format : Format) («data» : List ℕ) → isCyclic r ≡ true → r .«record_length» ≤ 127 → length «data» ≤ r .«record_length» → Fit card c (increase format «data» s (fileAt card (s .file)))
-      unfolding increase fileAt
+      pub fit-increase : (format : Format) («data» : List ℕ) → isCyclic r ≡ true → r .«record_length» ≤ 127 → length «data» ≤ r .«record_length» → Fit card (s .root) c (increase format «data» s (fileAt card (s .file)))
+      unfolding increase fileAt atRecord
       fit-increase format «data» cyclic short few =
           let content = part (card .files) (r .start) (r .size) in
           let new = bytesOf (r .«record_length») (sum r content «data») in
           let l = bytesOf-length (r .«record_length») (sum r content «data») in
-          fit-produced card c (atRecord s 1) (at-number 1 (records-some (length (card .files)) r own has)) format _ (new ++ «data») _
+          fit-produced card c (atRecord s 1) (at-number 1 (records-some (length (card .files)) r own has)) format _ (new ++ «data») _ (inl refl)
           (rw (length-append new «data», l) (omega arith))
-          (in-newest card sound (s .file) (file .belongs .inside) has new l cyclic)
+          (in-newest card sound (s .root) (s .file) (file .belongs) has new l cyclic)

@@ -1,5 +1,6 @@
 pub mod Found
 pub mod Digits
+pub mod Own
 pub mod Placed
 pub mod Noted
 pub mod Fit

@@ -24,6 +24,7 @@ use Rattle.card.specs.Tree.{isRoot, rootIn, rootOf}
 use Rattle.card.proofs.Promises.{file-kind, cyclic-records, records-some, entry-own, first-kind, no-directory-file, parent-directory}
 use Rattle.card.proofs.Kept.{Rows}
 use Rattle.session.specs.declared.Standing.{Standing}
+use Rattle.session.specs.Words.{CanBeKept}
 use Rattle.session.specs.Session.{none, mostWaiting, startStanding, waits, dropped, atRecord, moved, selected}
 use Rattle.session.specs.Select.{find}
 use Rattle.session.specs.Good.{Belongs, GoodFile, Good}
@@ -35,6 +36,11 @@ root-directory r h = ⊎-elim (λ e. rw (eqb-true (r .kind) 1 e)) (λ e. rw (eqb
 
 file-no-root : (r : Row) → isFile r ≡ true → isRoot r ≡ false
 file-no-root r h = let k = file-kind r h in rw (ne-eqb (r .kind) 1 (omega arith), ne-eqb (r .kind) 3 (omega arith))
+
+-- a selection keeps the root
+pub selected-root : (s : Standing) (e : ℕ) (r : Row) → selected s e r .root ≡ s .root
+unfolding selected moved
+selected-root s e r = on-pick (λ (x : Standing). x .root ≡ s .root) (isDirectory r) _ _ (λ y. refl) (λ n. refl)
 
 -- moves of a good session, and what waits
 module _ (t : List ℕ) (s : Standing) (g : Good t s) where
@@ -49,6 +55,7 @@ module _ (t : List ℕ) (s : Standing) (g : Good t s) where
         file = file;
         unnumbered = unnumbered;
         valid = g .valid;
+        word = g .word;
       }
 
   pub good-record : (n : ℕ) → (1 ≤ n → (1 ≤ s .file) × (hasRecords (rowOf t (s .file)) ≡ true) × (n ≤ recordCount (rowOf t (s .file)))) → Good t (atRecord s n)
@@ -63,9 +70,9 @@ module _ (t : List ℕ) (s : Standing) (g : Good t s) where
       })
       (λ z. elim (decLt 0 n) [ yes p ↦ let k = h p .0 in absurd (omega arith) | no q ↦ omega arith ])
 
-  pub good-waits : (n word : ℕ) → n ≤ mostWaiting → Good t (waits s n word)
+  pub good-waits : (n word : ℕ) → n ≤ mostWaiting → (1 ≤ n → CanBeKept word) → Good t (waits s n word)
   unfolding waits
-  good-waits n word h =
+  good-waits n word h kept =
       record {
         rootInside = g .rootInside;
         root = g .root;
@@ -74,10 +81,11 @@ module _ (t : List ℕ) (s : Standing) (g : Good t s) where
         file = g .file;
         unnumbered = g .unnumbered;
         valid = h;
+        word = kept;
       }
 
   pub good-dropped : Good t (dropped s)
-  good-dropped = good-waits 0 0 (omega arith)
+  good-dropped = good-waits 0 0 (omega arith) (λ h. absurd (omega arith))
 
 -- a table with the same entries, but for the bytes of the newest record and of the state
 module _ (t u : List ℕ) (rows : Rows t u) where
@@ -86,9 +94,12 @@ module _ (t u : List ℕ) (rows : Rows t u) where
   same-root zero e = refl
   same-root (suc n) e = λ i. elim (isRoot (rows .alike e i)) [ true ↦ e | false ↦ same-root n (rows .alike e i .parent) i ]
 
-  belongs-kept : (root e : ℕ) → Belongs t root e → Belongs u root e
+  pub root-kept : (e : ℕ) → rootOf u e ≡ rootOf t e
   unfolding rootOf
-  belongs-kept root e b = record { inside = rw (rows .sameEntries) (b .inside); owner = same-root e e ∙ b .owner }
+  root-kept e = same-root e e
+
+  belongs-kept : (root e : ℕ) → Belongs t root e → Belongs u root e
+  belongs-kept root e b = record { inside = rw (rows .sameEntries) (b .inside); owner = root-kept e ∙ b .owner }
 
   pub good-kept : (s : Standing) → Good t s → Good u s
   good-kept s g =
@@ -105,6 +116,7 @@ module _ (t u : List ℕ) (rows : Rows t u) where
         };
         unnumbered = g .unnumbered;
         valid = g .valid;
+        word = g .word;
       }
 
 module _ (t files : List ℕ) (sound : soundTable t files ≡ true) where
@@ -120,6 +132,7 @@ module _ (t files : List ℕ) (sound : soundTable t files ≡ true) where
         file = λ h. absurd (omega arith);
         unnumbered = λ h. refl;
         valid = omega arith;
+        word = λ h. absurd (omega arith);
       }
 
   -- a selection

@@ -1,4 +1,5 @@
--- A session on a table: its directory and its file belong to the application, and the record number is one of its file's, or none.
+-- A session on a table: its directory and its file belong to its application, the record number is one of its file's, or none, and the
+-- word that is kept for waiting bytes is one that a command leaves with them.
 use Prim.Native.Nat.{ℕ, _≤_, _<_}
 use mathlib.Core.Bool.{true}
 use mathlib.Core.Path.{_≡_}
@@ -8,6 +9,7 @@ use Rattle.card.specs.Sound.{recordCount}
 use Rattle.card.specs.Tree.{isRoot, rootOf}
 use Rattle.session.specs.declared.Standing.{Standing}
 use Rattle.session.specs.Session.{none, mostWaiting}
+use Rattle.session.specs.Words.{CanBeKept}
 
 -- an entry of a table that belongs to a root
 pub record Belongs (t : List ℕ) (root e : ℕ) : Type 0 where
@@ -29,3 +31,4 @@ pub record Good (t : List ℕ) (s : Standing) : Type 0 where
   pub file : 1 ≤ s .file → GoodFile t (s .root) (s .file) (s .«record_number»)
   pub unnumbered : s .file ≡ none → s .«record_number» ≡ none
   pub valid : s .valid ≤ mostWaiting
+  pub word : 1 ≤ s .valid → CanBeKept (s .word)

@@ -1,3 +1,4 @@
+pub mod Words
 pub mod Session
 pub mod Select
 pub mod Fcp

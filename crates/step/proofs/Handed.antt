@@ -55,7 +55,7 @@ module _ (s : Standing) (card : Card) (sound : soundCard card ≡ true) (good : 
   abbrev plan : Plan
   plan = planned (situation format domain c «data» s card)
 
-  fit : Fit card c plan
+  fit : Fit card (s .root) c plan
   fit = planned-fit format domain c «data» s card (card-table card sound) good brief
 
   pub files-kept : (waiting : List ℕ) → length (carriedOut plan waiting card .card .files) ≡ length (card .files)

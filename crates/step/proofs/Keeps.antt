@@ -64,7 +64,7 @@ module _ (before : Card) (s : Session) (card : Card) (h : Holds before s card) w
       let m : Moved = carriedOut p (s .waiting) card in
       Holds before (m .session) (m .card)
 
-  plan-holds : {c : Command} (p : Plan) → Fit card c p → HasRoom (card .journal) (cost (p .writes)) → Carries p
+  plan-holds : {root : ℕ} {c : Command} (p : Plan) → Fit card root c p → HasRoom (card .journal) (cost (p .writes)) → Carries p
   unfolding carriedOut
   plan-holds p fit left =
       let ok = sound-writable card (h .sound) in
