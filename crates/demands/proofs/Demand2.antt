@@ -11,6 +11,7 @@ use Rattle.demands.proofs.AllRead.{all-commands, all-pieces}
 use Rattle.demands.proofs.Fresh.{fresh}
 use Rattle.demands.proofs.Errors.{errors}
 use Rattle.demands.proofs.Worked.{marked}
+use Rattle.demands.proofs.Apart.{apart}
 
 cyclic : (m k : ℕ) → k < m → Cyclic m k
 unfolding recordOffset recordPlace cyclicPlace
@@ -37,4 +38,5 @@ demand2 =
       errors = errors;
       marked = marked;
       cyclic = cyclic;
+      nothingCrosses = apart;
     }

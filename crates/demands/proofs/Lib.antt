@@ -7,6 +7,7 @@ pub mod Commands
 pub mod AllRead
 pub mod Fresh
 pub mod Errors
+pub mod Apart
 pub mod Worked
 pub mod Demand2
 pub mod Room

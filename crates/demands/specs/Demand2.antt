@@ -39,6 +39,7 @@ use Rattle.engine.specs.Numbers.{Arguments, formatOf}
 use Rattle.engine.specs.Calls.{Result, gives, runScript}
 use Rattle.demands.specs.Called.{running, resultOf, number}
 use Rattle.demands.specs.Commands.{lastOf, Read, readIn, commandsFrom, commandsOf, commandDone, statesAfter, Piece, capdu, piecesIn, piecesOf, pieceDone, progressAfter}
+use Rattle.demands.specs.Apart.{Apart}
 use Rattle.engine.specs.Hex.{hex}
 use Rattle.engine.specs.Worked.{Marked}
 
@@ -162,3 +163,7 @@ pub record Demand2 : Type 0 where
   pub errors : ErrorsChangeNothing
   pub marked : Marked
   pub cyclic : (m k : ℕ) → k < m → Cyclic m k
+  -- a script stays within its application, and a run leaves the others as they were
+  pub nothingCrosses :
+      (a : Arguments) (c : Card) → AllBytes (a .script) → number (resultOf (running a) c) ≡ 0
+      → Apart a c (resultOf (running a) c .card)

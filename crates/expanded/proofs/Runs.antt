@@ -47,7 +47,7 @@ module _ (before : Card) where
   unfolding answered
   answered-holds counts st kept r h = on-pick Kept counts _ _ (λ y. h) (λ n. h)
 
-  capdu-holds : (definite : Bool) (domain : ℕ) (capdu : List ℕ) (p : Progress) → byte capdu 4 < 256 → Kept p → Kept (stepCapdu definite domain capdu p)
+  pub capdu-holds : (definite : Bool) (domain : ℕ) (capdu : List ℕ) (p : Progress) → byte capdu 4 < 256 → Kept p → Kept (stepCapdu definite domain capdu p)
   unfolding stepCapdu limited stepped capduCommand
   capdu-holds definite domain capdu p b h =
       let s = p .state .step .session in
