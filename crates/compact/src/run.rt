@@ -4,6 +4,7 @@ use command::Format;
 use command::Outcome;
 use command::Reading;
 use command::Step;
+use command::ends::NORMAL;
 use command::ends::goes_on;
 use command::ends::word_of;
 ghost use mathlib.Core.Path.{_≡_};
@@ -62,7 +63,7 @@ pub fn run(
 {
     let mut step = Step {
         session: session::start(application),
-        outcome: Outcome::Well(0x9000),
+        outcome: Outcome::Well(NORMAL),
         count: 0,
     };
     let mut made = [0; 255];

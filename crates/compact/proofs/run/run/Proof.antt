@@ -13,7 +13,7 @@ use Rattle.octets.proofs.Picks.{told-false, told-true}
 use Rattle.card.specs.Row.{lent}
 use Rattle.session.specs.Session.{mostWaiting}
 use Rattle.command.specs.declared.Outcome.the-variants.{Well}
-use Rattle.command.specs.Outcomes.{goesOn}
+use Rattle.command.specs.Outcomes.{normal, goesOn}
 use Rattle.step.specs.Steps.{started}
 use Rattle.step.proofs.Keeps.{starts-small}
 use Rattle.compact.specs.Compact.{placeAfter}
@@ -43,7 +43,7 @@ loop-holds c =
       refl,
       refl,
       refl,
-      begins (s .pre .0) (λ i. record { session = c .start .ensures i; outcome = Well 0x9000; count = 0 }),
+      begins (s .pre .0) (λ i. record { session = c .start .ensures i; outcome = Well normal; count = 0 }),
     )
 
 next-reading-requires : tie.Need-next-reading-requires Inv-loop μ-loop
