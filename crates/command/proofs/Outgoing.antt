@@ -7,12 +7,13 @@ use lib.ListN.{length}
 use lib.Seq.{length-take-le}
 use Rattle.octets.specs.Bytes.{overwrite}
 use Rattle.octets.proofs.Writes.{part-length}
+use Rattle.session.specs.Session.{mostWaiting}
 use Rattle.command.specs.declared.Outcome.{Outcome}
 use Rattle.command.specs.declared.Outcome.the-variants.{Well, FromFiles, FromWaiting, Error}
 use Rattle.command.specs.Outcomes.{dataOf, dataCount}
 use Rattle.command.specs.Promised.{mostData, OutcomeFits}
 
-pub data-length : (o : Outcome) (files waiting : List ℕ) → OutcomeFits (length files) o → length waiting ≡ 255 → length (dataOf o files waiting) ≡ dataCount o
+pub data-length : (o : Outcome) (files waiting : List ℕ) → OutcomeFits (length files) o → length waiting ≡ mostWaiting → length (dataOf o files waiting) ≡ dataCount o
 unfolding dataOf OutcomeFits
 data-length (Well word) files waiting fits all = refl
 data-length (FromFiles word place n) files waiting fits all = part-length files place n (fits .0)

@@ -43,12 +43,12 @@ module _ (n : ℕ) (j : List ℕ) (u : ℕ) (some : 0 < u) where
   back-stop h = rw (entriesBack, ne-eqb u 0 (λ e. omega arith), h)
 
 -- a whole entry is no longer than the bytes
-pub count-fits : (j : List ℕ) (u : ℕ) → readable j u ≡ true → entryBytes (tailAt j u .size) ≤ u
+pub size-fits : (j : List ℕ) (u : ℕ) → readable j u ≡ true → entryBytes (tailAt j u .size) ≤ u
 unfolding readable
-count-fits j u h = leb-true _ _ (and-left _ (formed (tailBytes j u)) h)
+size-fits j u h = leb-true _ _ (and-left _ (formed (tailBytes j u)) h)
 
 pub readable-fits : (j : List ℕ) (u : ℕ) {l : Tail} → l ≡ tailAt j u → readable j u ≡ true → entryBytes (l .size) ≤ u
-readable-fits j u e h = rw e (count-fits j u h)
+readable-fits j u e h = rw e (size-fits j u h)
 
 -- what is read back is what the bytes hold, and nothing else is
 pub read : (n : ℕ) (j : List ℕ) (u : ℕ) → u ≤ n → Reading j u (entriesBack n j u)
@@ -67,9 +67,9 @@ pub read-only : {j : List ℕ} {u : ℕ} {es : List Entry} (n : ℕ) → u ≤ n
 read-only {j} n h none = back-none n j
 read-only zero h (stop p r) = absurd (omega arith)
 read-only {j} (suc n) h (stop {u} p r) = back-stop n j u p r
-read-only {j} zero h (more {u} r rest) = absurd (omega (arith, count-fits j u r))
+read-only {j} zero h (more {u} r rest) = absurd (omega (arith, size-fits j u r))
 read-only {j} (suc n) h (more {u} r rest) =
-    let c = count-fits j u r in
+    let c = size-fits j u r in
     back-more n j u (omega arith) r ∙ ap (λ (es : List Entry). entryAt j u ∷ es) (read-only n (omega arith) rest)
 
 pub read-all : (j : List ℕ) → Reading j (usedBytes j) (entriesOf j)
@@ -92,7 +92,7 @@ module _ (j k : List ℕ) (u : ℕ) (alike : part j headSize u ≡ part k headSi
     tail-same : tailBytes j u ≡ tailBytes k u
     unfolding tailBytes
     tail-same =
-        let c = count-fits j u r in
+        let c = size-fits j u r in
         let q : headSize + u - tailSize ≡ headSize + (u - tailSize) = omega arith in
         rw q (part-same (u - tailSize) tailSize (omega arith))
 
@@ -107,7 +107,7 @@ module _ (j k : List ℕ) (u : ℕ) (alike : part j headSize u ≡ part k headSi
     same-entry : entryAt j u ≡ entryAt k u
     unfolding entryAt oldPlace
     same-entry =
-        let c = count-fits j u r in
+        let c = size-fits j u r in
         let n = tailAt j u .size in
         let q : headSize + u - entryBytes n ≡ headSize + (u - entryBytes n) = omega arith in
         let o : part j (headSize + u - entryBytes n) n ≡ part k (headSize + u - entryBytes n) n = rw q (part-same (u - entryBytes n) n (omega arith)) in

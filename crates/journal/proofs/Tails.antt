@@ -18,7 +18,7 @@ use Rattle.octets.proofs.Numbers.{num-bytes2}
 use Rattle.octets.proofs.Writes.{part-length, part-part}
 use Rattle.octets.proofs.Same.{same-true, same-refl}
 use Rattle.journal.specs.Entries.{Entry, headSize, tail, encode, tailSize, entryBytes, tailBytes, tailIn, tailAt, formed, oldPlace, entryAt, readable}
-use Rattle.journal.proofs.Entries.{Reading, more, before, count-fits}
+use Rattle.journal.proofs.Entries.{Reading, more, before, size-fits}
 
 -- how many there are, the last of them, and what these hold
 pub encode-length : (e : Entry) → length (encode e) ≡ entryBytes (length (e .old))
@@ -45,24 +45,24 @@ module _ (j : List ℕ) (u : ℕ) (whole : readable j u ≡ true) where
   tail-is = same-true _ _ (and-right (leb (entryBytes (tailAt j u .size)) u) _ whole)
 
   pub begins : before j u + entryBytes (tailAt j u .size) ≡ u
-  begins = let c = count-fits j u whole in omega arith
+  begins = let c = size-fits j u whole in omega arith
 
   module _ (fits : headSize + u ≤ length j) where
     pub old-length : length (entryAt j u .old) ≡ tailAt j u .size
     unfolding entryAt oldPlace
-    old-length = let c = count-fits j u whole in part-length j (headSize + u - entryBytes (tailAt j u .size)) (tailAt j u .size) (omega arith)
+    old-length = let c = size-fits j u whole in part-length j (headSize + u - entryBytes (tailAt j u .size)) (tailAt j u .size) (omega arith)
 
     entry-end : part j (headSize + before j u + tailAt j u .size) tailSize ≡ tail (tailAt j u .kind) (tailAt j u .place) (length (entryAt j u .old))
     unfolding tailBytes
     entry-end =
-        let c = count-fits j u whole in
+        let c = size-fits j u whole in
         let q : headSize + before j u + tailAt j u .size ≡ headSize + u - tailSize = omega arith in
         rw (q, old-length) tail-is
 
     pub entry-bytes : part j (headSize + before j u) (entryBytes (tailAt j u .size)) ≡ encode (entryAt j u)
     unfolding encode entryAt oldPlace
     entry-bytes =
-        let c = count-fits j u whole in
+        let c = size-fits j u whole in
         let n = tailAt j u .size in
         let at = headSize + before j u in
         let swap : entryBytes n ≡ n + tailSize = omega arith in

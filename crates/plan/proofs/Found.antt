@@ -58,7 +58,7 @@ pub record Going (r : Row) (content : List ℕ) (p2 : ℕ) («data» : List ℕ)
   pub room : n + left < length out₀
   pub same : length out ≡ length out₀
   pub notes : List ℕ
-  pub count : n ≡ length notes
+  pub noted : n ≡ length notes
   pub written : out ≡ overwrite out₀ 0 notes
   pub whole : notes ++ foundAmong r content p2 «data» left number ≡ foundRecords r content p2 «data» from
 
@@ -72,7 +72,7 @@ module _ (r : Row) (content : List ℕ) (p2 : ℕ) («data» : List ℕ) where
         room = omega (arith, few-left r p2 from here there);
         same = refl;
         notes = [];
-        count = refl;
+        noted = refl;
         written = sym (write-none out₀ 0);
         whole = rw e;
       }
@@ -99,8 +99,8 @@ module _ (r : Row) (content : List ℕ) (p2 : ℕ) («data» : List ℕ) where
           room = omega arith;
           same = ap length o ∙ write-length out n (noted found number) (omega arith) ∙ g .same;
           notes = g .notes ++ noted found number;
-          count = m ∙ rw (length-append, g .count);
-          written = o ∙ rw (g .written, g .count) (sym (rw zero-add at (write-two out₀ 0 (g .notes) (noted found number) (omega arith))));
+          noted = m ∙ rw (length-append, g .noted);
+          written = o ∙ rw (g .written, g .noted) (sym (rw zero-add at (write-two out₀ 0 (g .notes) (noted found number) (omega arith))));
           whole = rw (append-assoc, s, f, ← (found-next left number some)) (g .whole);
         }
 
@@ -108,4 +108,4 @@ module _ (r : Row) (content : List ℕ) (p2 : ℕ) («data» : List ℕ) where
     found-all z = sym (append-nil (g .notes)) ∙ ap (λ (l : List ℕ). g .notes ++ l) (sym (found-none left number z)) ∙ g .whole
 
     pub ends : left ≡ 0 → (out ≡ overwrite out₀ 0 (foundRecords r content p2 «data» from)) × (n ≡ length (foundRecords r content p2 «data» from))
-    ends z = (g .written ∙ ap (overwrite out₀ 0) (found-all z), g .count ∙ ap length (found-all z))
+    ends z = (g .written ∙ ap (overwrite out₀ 0) (found-all z), g .noted ∙ ap length (found-all z))
