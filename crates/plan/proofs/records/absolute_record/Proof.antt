@@ -1,4 +1,4 @@
--- `command::records::absolute_record` meets its contract: each arm is the one that the definition picks. Assumes nothing.
+-- `plan::records::absolute_record` meets its contract: each arm is the one that the definition picks. Assumes nothing.
 use Rattle.octets.proofs.Picks.{picks}
 use Rattle.plan.specs.Files.{absoluteRecord}
 use Rattle.plan.proofs.records.absolute_record.Statement.{statement}

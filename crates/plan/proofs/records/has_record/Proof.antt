@@ -1,4 +1,4 @@
--- `command::records::has_record` meets its contract: each part is what its callee ensures. Assumes nothing.
+-- `plan::records::has_record` meets its contract: each part is what its callee ensures. Assumes nothing.
 use Rattle.plan.specs.Files.{hasRecord}
 use borrow.Author.Needs.{needs}
 use Rattle.plan.proofs.records.has_record.Statement.{statement}

@@ -1,4 +1,4 @@
--- `command::records::next_record` meets its contract: each arm is the one that the definition picks. Assumes nothing.
+-- `plan::records::next_record` meets its contract: each arm is the one that the definition picks. Assumes nothing.
 use mathlib.Core.Path.{refl}
 use Rattle.octets.proofs.Picks.{lt-yes, lt-no, picks}
 use Rattle.plan.specs.Files.{nextRecord}

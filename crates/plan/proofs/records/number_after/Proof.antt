@@ -1,4 +1,4 @@
--- `command::records::number_after` meets its contract: each arm is the one that the definition picks. Assumes nothing.
+-- `plan::records::number_after` meets its contract: each arm is the one that the definition picks. Assumes nothing.
 use Rattle.octets.proofs.Picks.{picks}
 use Rattle.plan.specs.Files.{numberAfter}
 use Rattle.plan.proofs.records.number_after.Statement.{statement}

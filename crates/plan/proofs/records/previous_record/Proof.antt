@@ -1,4 +1,4 @@
--- `command::records::previous_record` meets its contract: each arm is the one that the definition picks. Assumes nothing.
+-- `plan::records::previous_record` meets its contract: each arm is the one that the definition picks. Assumes nothing.
 use Rattle.octets.proofs.Picks.{picks}
 use Rattle.plan.specs.Files.{previousRecord}
 use borrow.Author.Needs.{needs}

@@ -1,4 +1,4 @@
--- `command::records::record_of` meets its contract: each arm is the one that the definition picks. Assumes nothing.
+-- `plan::records::record_of` meets its contract: each arm is the one that the definition picks. Assumes nothing.
 use Rattle.octets.proofs.Picks.{picks}
 use Rattle.plan.specs.Files.{namedRecord}
 use Rattle.plan.specs.Plans.{namedBy}

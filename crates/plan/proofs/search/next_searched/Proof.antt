@@ -1,4 +1,4 @@
--- `command::search::next_searched` meets its contract: each arm is the one that the definition picks. Assumes nothing.
+-- `plan::search::next_searched` meets its contract: each arm is the one that the definition picks. Assumes nothing.
 use Rattle.octets.proofs.Picks.{picks}
 use Rattle.plan.specs.Files.{nextSearched}
 use borrow.Author.Needs.{needs}

@@ -1,4 +1,4 @@
--- `command::search::note` meets its contract: a number that was found is one byte more, and else nothing is written. Assumes nothing.
+-- `plan::search::note` meets its contract: a number that was found is one byte more, and else nothing is written. Assumes nothing.
 use mathlib.Core.Path.{sym}
 use native.Mathlib.Nat.{add-zero}
 use Rattle.octets.specs.Choice.{pick}

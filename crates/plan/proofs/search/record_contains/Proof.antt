@@ -1,4 +1,4 @@
--- `command::search::record_contains` meets its contract: a record of a file is a part of the file memory. Assumes nothing.
+-- `plan::search::record_contains` meets its contract: a record of a file is a part of the file memory. Assumes nothing.
 use mathlib.Core.Path.{ap, _∙_}
 use mathlib.Core.List.{List}
 use Prim.Native.Nat.{ℕ}

@@ -1,4 +1,4 @@
--- `command::search::to_search` meets its contract: each arm is the one that the definition picks. Assumes nothing.
+-- `plan::search::to_search` meets its contract: each arm is the one that the definition picks. Assumes nothing.
 use Rattle.octets.proofs.Picks.{eq-yes, picks}
 use Rattle.plan.specs.Files.{toSearch}
 use borrow.Author.Needs.{needs}

@@ -1,4 +1,4 @@
--- `command::sum::add` meets its contract. The loop's invariant: after i digits the sum's last i bytes are written, and the carry is what is left of it. Assumes nothing.
+-- `plan::sum::add` meets its contract. The loop's invariant: after i digits the sum's last i bytes are written, and the carry is what is left of it. Assumes nothing.
 use Prim.Native.Nat.{_-_}
 use native.Mathlib.Omega.{arith}
 use borrow.Author.Needs.{needs}

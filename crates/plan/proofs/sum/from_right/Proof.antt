@@ -1,4 +1,4 @@
--- `command::sum::from_right` meets its contract: each arm is the one that the definition picks. Assumes nothing.
+-- `plan::sum::from_right` meets its contract: each arm is the one that the definition picks. Assumes nothing.
 use mathlib.Core.Path.{refl}
 use native.Mathlib.Omega.{arith}
 use Rattle.octets.proofs.Picks.{lt-yes, lt-no}
