@@ -1,5 +1,5 @@
 -- "The lent card": the three memories, and the table's entries of 16 bytes.
-use Prim.Native.Nat.{ℕ, _+_, _*_, _/_, _<_}
+use Prim.Native.Nat.{ℕ, _+_, _*_, _/_, _≤_, _<_}
 use mathlib.Core.Bool.{Bool, not, _&&_, _||_}
 use mathlib.Core.List.{List}
 use lib.ListN.{length}
@@ -24,6 +24,10 @@ entrySize = 16
 -- how many entries a table has
 abbrev pub entries : List ℕ → ℕ
 entries t = length t / entrySize
+
+-- a table has all bytes of entry e
+abbrev pub HasEntry : List ℕ → ℕ → Type 0
+HasEntry t e = entrySize * e + entrySize ≤ length t
 
 -- the 16 bytes of an entry
 unfoldable pub entry : List ℕ → ℕ → List ℕ

@@ -12,10 +12,9 @@ pub mod sound;
 pub mod tree;
 
 ghost use mathlib.Core.Path.{_≡_};
-ghost use Prim.Native.Nat.{_+_, _*_, _≤_};
 ghost use lib.ListN.{length};
 ghost use Rattle.octets.specs.Bytes.{InWord};
-ghost use Rattle.card.specs.Row.{entrySize, entries, row, rowOf, placeOfNewest, placeOfState, RowFits};
+ghost use Rattle.card.specs.Row.{entrySize, entries, HasEntry, row, rowOf, placeOfNewest, placeOfState, RowFits};
 
 // The number of bytes of an entry.
 pub const ENTRY_SIZE: usize = 16;
@@ -68,7 +67,7 @@ pub fn entries(table: &[u8]) -> usize
 
 // Returns what the 16 bytes of an entry hold.
 fn row_of(bytes: &[u8]) -> Row
-    requires { ⌜ length (now bytes) ≡ 16 ⌝ }
+    requires { ⌜ length (now bytes) ≡ entrySize ⌝ }
     ensures { λ r. ⌜ (r ≡ row (now (bytes .entry))) × RowFits r ⌝ }
 {
     Row {
@@ -89,7 +88,7 @@ fn row_of(bytes: &[u8]) -> Row
 
 // Returns what entry e of a table holds.
 pub fn row_at(table: &[u8], e: usize) -> Row
-    requires { ⌜ entrySize * e + entrySize ≤ length (now table) ⌝ }
+    requires { ⌜ HasEntry (now table) e ⌝ }
     ensures { λ r. ⌜ (r ≡ rowOf (now (table .entry)) e) × RowFits r ⌝ }
 {
     let at = ENTRY_SIZE * e;

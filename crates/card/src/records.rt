@@ -5,6 +5,7 @@ ghost use Prim.Native.Nat.{_+_, _*_, _≤_, _<_};
 ghost use Rattle.card.specs.Row.{RowFits};
 ghost use Rattle.card.specs.Sound.{recordCount};
 ghost use Rattle.card.specs.Records.{cyclicPlace, recordOffset, oldestPlace};
+ghost use Rattle.card.specs.Promised.{RecordOffsetAsks};
 
 // Returns the place of record r among m records, with the newest at place k.
 fn cyclic_place(m: usize, k: usize, r: usize) -> usize
@@ -25,7 +26,7 @@ pub fn record_count(f: Row) -> usize
 
 // Returns where record r begins in its file.
 pub fn record_offset(f: Row, r: usize) -> usize
-    requires { ⌜ (1 ≤ f .«record_length») × (1 ≤ r) × (r ≤ recordCount f) × RowFits f ⌝ }
+    requires { ⌜ RecordOffsetAsks f r ⌝ }
     ensures { λ p. ⌜ (p ≡ recordOffset f r) × (p + f .«record_length» ≤ f .size) ⌝ }
 {
     let record = f.record_length;

@@ -7,6 +7,7 @@ use lib.ListN.{length}
 use lib.Seq.{length-take-le}
 use Rattle.journal.specs.Entries.{entryBytes}
 use Rattle.journal.specs.Changes.{cost}
+use Rattle.session.specs.Session.{mostWaiting}
 use Rattle.plan.specs.Promised.{recordWrites, writesOf, Fits, CostOfAsks}
 use Rattle.plan.specs.declared.Change.{Change}
 use Rattle.plan.specs.declared.Change.the-variants.{Nothing, Content, DataRecord, SumRecord, TableByte}
@@ -19,7 +20,7 @@ costOf (DataRecord r) lc = entryBytes lc + entryBytes 1
 costOf (SumRecord r) lc = entryBytes (r .«record_length») + entryBytes 1
 costOf (TableByte place new) lc = entryBytes 1
 
-pub cost-told : (change : Change) («data» bytes : List ℕ) → CostOfAsks change → length bytes ≡ 255 → cost (writesOf change «data» bytes) ≡ costOf change (length «data»)
+pub cost-told : (change : Change) («data» bytes : List ℕ) → CostOfAsks change → length bytes ≡ mostWaiting → cost (writesOf change «data» bytes) ≡ costOf change (length «data»)
 unfolding CostOfAsks cost writesOf recordWrites costOf
 cost-told Nothing «data» bytes b w = refl
 cost-told (Content start size offset) «data» bytes b w = omega arith
@@ -48,7 +49,7 @@ fits-brief t f lc (TableByte place new) h = tt
 pub known-brief : {change other : Change} → change ≡ other → CostOfAsks change → CostOfAsks other
 known-brief same = subst CostOfAsks same
 
-pub known-cost : {change other : Change} {lc n : ℕ} → change ≡ other → CostOfAsks change → lc < 256 → n ≡ costOf other lc → ((«data» bytes : List ℕ) → length «data» ≡ lc → length bytes ≡ 255 → n ≡ cost (writesOf change «data» bytes)) × (n < 65536)
+pub known-cost : {change other : Change} {lc n : ℕ} → change ≡ other → CostOfAsks change → lc < 256 → n ≡ costOf other lc → ((«data» bytes : List ℕ) → length «data» ≡ lc → length bytes ≡ mostWaiting → n ≡ cost (writesOf change «data» bytes)) × (n < 65536)
 known-cost {change} {other} {lc} {n} same b h told =
     let e : n ≡ costOf change lc = told ∙ ap (λ (x : Change). costOf x lc) (sym same) in
     (λ «data» bytes l w. e ∙ ap (costOf change) (sym l) ∙ sym (cost-told change «data» bytes b w), rw e (cost-small change lc b h))

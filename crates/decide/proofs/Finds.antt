@@ -38,7 +38,7 @@ module _ (c : Command) (lc domain : ℕ) {i : ℕ} (e : c .instruction ≡ i) wh
 
   pub finds-case : {b : Bool} → b ≡ wrongCase c lc → Finds (Formal c lc domain) WrongCase b
   unfolding fails
-  finds-case f w so = rw (so .0 .command, so .0 .count, ← f)
+  finds-case f w so = rw (so .0 .command, so .0 .size, ← f)
 
   pub finds-parameters : {b : Bool} → b ≡ parametersFit i (c .p1) (c .p2) → Finds (Formal c lc domain) WrongParameters (not b)
   unfolding fails
@@ -80,4 +80,4 @@ module _ (c : Command) (lc : ℕ) (s : Standing) (r : Row) {i : ℕ} (e : c .ins
 
   pub finds-length : {b : Bool} → b ≡ lengthFits i (offsetOf c) (c .p3) lc r → Finds (Bound c lc s r) WrongLength (not b)
   unfolding fails offsetOf
-  finds-length f w so = rw (so .0 .command, e, so .0 .count, so .1 .row, ← f)
+  finds-length f w so = rw (so .0 .command, e, so .0 .size, so .1 .row, ← f)

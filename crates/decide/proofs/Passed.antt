@@ -9,7 +9,7 @@ use mathlib.Core.Path.{_≡_, refl, sym, _∙_}
 use mathlib.Core.Bool.{true, false}
 use mathlib.Core.List.{List, [], _++_}
 use mathlib.Core.Logic.{⊎-elim}
-use Prim.Native.Nat.{ℕ, _+_, _*_, _≤_, _<_}
+use Prim.Native.Nat.{ℕ, _+_, _≤_, _<_}
 use native.Mathlib.Nat.{eq-zero-or-pos}
 use native.Mathlib.Omega.{arith}
 use lib.ListN.{length}
@@ -18,12 +18,14 @@ use borrow.Author.Tests.{eqb-false, not-false}
 use Rattle.octets.specs.Choice.{pick}
 use Rattle.octets.proofs.Picks.{on-pick}
 use Rattle.card.specs.declared.Row.{Row}
-use Rattle.card.specs.Row.{Card, lent, RowFits, entrySize, entries, rowOf, isCyclic, hasRecords, activated, deactivated, placeOfNewest, placeOfState}
-use Rattle.card.specs.Sound.{recordCount, ownSound}
+use Rattle.card.specs.Row.{Card, lent, RowFits, HasEntry, entries, rowOf, isCyclic, hasRecords, activated, deactivated, placeOfNewest, placeOfState}
+use Rattle.card.specs.Sound.{ownSound}
+use Rattle.card.specs.Promised.{RecordOffsetAsks}
 use Rattle.card.proofs.Promises.{some-entries, few-entries, cyclic-records, file-inside, record-some, records-some, records-few, entry-own}
 use Rattle.journal.specs.Entries.{usedBytes, room, HasRoom}
 use Rattle.journal.proofs.Parts.{Parts, card-table, card-parts, used-inside, room-left}
 use Rattle.session.specs.declared.Standing.{Standing}
+use Rattle.session.specs.Session.{mostWaiting}
 use Rattle.command.specs.declared.Format.{Format}
 use Rattle.command.specs.declared.Format.the-variants.{Compact}
 use Rattle.command.specs.declared.Command.{Command}
@@ -67,8 +69,11 @@ module _ {files lc : ℕ} {c : Command} {s : Standing} {r : Row} (p : Known file
   pub of-records : isRecord (c .instruction) ≡ true → Recorded files r
   of-records h = p .recorded (record-kind (c .instruction) r h (p .kind))
 
-  pub has-named : isRecord (c .instruction) ≡ true → renews (c .instruction) r ≡ false → (1 ≤ namedBy c (s .«record_number») r) × (namedBy c (s .«record_number») r ≤ recordCount r)
-  has-named h g = named-there c (s .«record_number») r h g (p .«record»)
+  pub has-named : isRecord (c .instruction) ≡ true → renews (c .instruction) r ≡ false → RecordOffsetAsks r (namedBy c (s .«record_number») r)
+  has-named h g =
+      let has = of-records h in
+      let n = named-there c (s .«record_number») r h g (p .«record») in
+      record { row = has .row; least = has .least; first = n .0; last = n .1 }
 
   pub to-sum : c .instruction ≡ ins.increase → Recorded files r × (r .«record_length» ≤ 127) × (lc ≤ r .«record_length»)
   to-sum e =
@@ -103,7 +108,7 @@ module _ {t files : List ℕ} {s : Standing} {c : Command} {lc : ℕ} (can : Fil
   pub file-small : s .file < 64
   file-small = let h = few-entries t files (can .table) in let g = file-here in omega arith
 
-  pub entry-inside : entrySize * s .file + entrySize ≤ length t
+  pub entry-inside : HasEntry t (s .file)
   entry-inside = let h = file-here in omega arith
 
   pub newest-inside : placeOfNewest (s .file) < length t
@@ -125,7 +130,7 @@ module _ {t files : List ℕ} {s : Standing} {c : Command} {lc : ℕ} (can : Fil
 
     passed : RowFits r → (w : Situation) → Bound c lc s r w → AllPass w boundChecks → Known (length files) c lc s r
     unfolding boundChecks fails
-    passed narrow w so h =
+    passed fits w so h =
         let of = so .0 in
         let on = so .1 in
         let some : 1 ≤ s .file = let z = eqb-false (s .file) 0 (rw (on .session) at (h .0)) in omega arith in
@@ -135,7 +140,7 @@ module _ {t files : List ℕ} {s : Standing} {c : Command} {lc : ℕ} (can : Fil
           recorded = λ has.
               let m = records-few (length files) r own has in
               record {
-                narrow = narrow;
+                row = fits;
                 least = records-long has;
                 counted = records-some (length files) r own has;
                 most = omega arith;
@@ -144,7 +149,7 @@ module _ {t files : List ℕ} {s : Standing} {c : Command} {lc : ℕ} (can : Fil
           kind = not-false _ (rw (of .command, on .row) at (h .1 .0));
           offset = rw (of .command, on .row) at (h .1 .1 .1 .1 .1 .0);
           «record» = rw (of .command, on .session, on .row) at (h .1 .1 .1 .1 .1 .1 .0);
-          length = not-false _ (rw (of .command, of .count, on .row) at (h .1 .1 .1 .1 .1 .1 .1 .0));
+          length = not-false _ (rw (of .command, of .size, on .row) at (h .1 .1 .1 .1 .1 .1 .1 .0));
         }
 
 -- an instruction that sets the current file's state
@@ -171,7 +176,7 @@ Told domain c lc s r came = FirstOf (formalChecks ++ boundChecks) (Whole c lc do
 -- a command's own situation is one of these
 pub own-formal : (format : Format) (domain : ℕ) (c : Command) («data» : List ℕ) (s : Standing) (card : Card) → Formal c (length «data») domain (situation format domain c «data» s card)
 unfolding situation
-own-formal format domain c «data» s card = (record { command = refl; count = refl }, refl)
+own-formal format domain c «data» s card = (record { command = refl; size = refl }, refl)
 
 own-situation : (format : Format) (domain : ℕ) (c : Command) («data» : List ℕ) (s : Standing) (t files journal : List ℕ) {r : Row} → Read t s r → Whole c (length «data») domain s r (situation format domain c «data» s (lent t files journal))
 unfolding situation fileAt
@@ -221,9 +226,9 @@ module _ {domain : ℕ} {c : Command} {«data» : List ℕ} {s : Standing} {t fi
 
 -- with the journal's room: what `with_room` gives, and what it comes to
 abbrev pub WithRoom : Decision → Standing → ℕ → ℕ → ℕ → Decision → Type 0
-WithRoom d s lc used left e = (((«data» bytes : List ℕ) → length «data» ≡ lc → length bytes ≡ 255 → planOf e «data» bytes ≡ roomed used left s (planOf d «data» bytes)) × ((t f : ℕ) → Fits t f lc (d .change) → Fits t f lc (e .change)))
+WithRoom d s lc used left e = (((«data» bytes : List ℕ) → length «data» ≡ lc → length bytes ≡ mostWaiting → planOf e «data» bytes ≡ roomed used left s (planOf d «data» bytes)) × ((t f : ℕ) → Fits t f lc (d .change) → Fits t f lc (e .change)))
 
-pub room-decided : (format : Format) (domain : ℕ) (c : Command) («data» : List ℕ) (s : Standing) (t files journal bytes : List ℕ) {d e : Decision} {used left : ℕ} → DecideAsks (lent t files journal) s c (length «data») → eqb (c .instruction) ins.select ≡ false → eqb (c .instruction) ins.getResponse ≡ false → used ≡ usedBytes journal → left ≡ room journal → length bytes ≡ 255 → Unroomed format domain c «data» s t files bytes d → WithRoom d s (length «data») used left e → Decided (lent t files journal) «data» bytes (planned (situation format domain c «data» s (lent t files journal))) e
+pub room-decided : (format : Format) (domain : ℕ) (c : Command) («data» : List ℕ) (s : Standing) (t files journal bytes : List ℕ) {d e : Decision} {used left : ℕ} → DecideAsks (lent t files journal) s c (length «data») → eqb (c .instruction) ins.select ≡ false → eqb (c .instruction) ins.getResponse ≡ false → used ≡ usedBytes journal → left ≡ room journal → length bytes ≡ mostWaiting → Unroomed format domain c «data» s t files bytes d → WithRoom d s (length «data») used left e → Decided (lent t files journal) «data» bytes (planned (situation format domain c «data» s (lent t files journal))) e
 unfolding situation fileAt
 room-decided format domain c «data» s t files journal bytes ready a b u l long unroomed told =
     let inside = journal-parts ready .used in

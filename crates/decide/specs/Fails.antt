@@ -18,7 +18,7 @@ use Rattle.command.specs.declared.checks.Checked.{Checked}
 use Rattle.command.specs.declared.checks.Checked.the-variants.{Passed, Failed}
 use Rattle.command.specs.Instructions as ins
 use Rattle.command.specs.Instructions.{carriesData, isOutgoing, isSwitch, isKnown, isBinary, isRecord, classOf, caseOf, noData, withFcp, neverBit}
-use Rattle.plan.specs.Files.{modeNext, modePrevious, modeAbsolute, searchForward, searchBackward, hasRecord, sumTooLong}
+use Rattle.plan.specs.Files.{modeNext, modePrevious, modeAbsolute, searchForward, searchBackward, hasRecord, longestIncrease, sumTooLong}
 use Rattle.plan.specs.Plans.{Situation, offsetOf, namedBy, doneBy}
 
 -- "compact B0, B2, C0 with bytes after it"
@@ -56,10 +56,6 @@ pathLengthFits p1 n = pick (eqb p1 0) (eqb n 2) (eqb (n % 2) 0 && (leb 2 n && le
 unfoldable pub isFound : Found → Bool
 isFound (At e) = true
 isFound Nothing = false
-
--- "INCREASE, .. record length at most 127"
-abbrev pub longestIncrease : ℕ
-longestIncrease = 127
 
 -- the kinds of file that an instruction works on; "INCREASE, .. cyclic"; "kind (INCREASE: or record above 127) 6981"
 unfoldable pub kindFits : ℕ → Row → Bool

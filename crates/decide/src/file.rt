@@ -21,9 +21,9 @@ use plan::target;
 use session::Standing;
 ghost use mathlib.Core.Path.{_≡_};
 ghost use mathlib.Core.List.{List, _++_};
-ghost use Prim.Native.Nat.{ℕ, _+_, _*_, _≤_};
+ghost use Prim.Native.Nat.{ℕ};
 ghost use lib.ListN.{length};
-ghost use Rattle.card.specs.Row.{RowFits, entrySize, rowOf};
+ghost use Rattle.card.specs.Row.{RowFits, HasEntry, rowOf};
 ghost use Rattle.session.specs.Session.{mostWaiting};
 ghost use Rattle.command.specs.Instructions as ins;
 ghost use Rattle.plan.specs.Files as files-spec;
@@ -32,7 +32,7 @@ ghost use Rattle.decide.specs.Promised.{FirstOf, Whole, FileCheckAsks, F
 
 // Returns the row of the file that a command works on.
 fn target_row(table: &[u8], s: Standing) -> Row
-    requires { ⌜ entrySize * files-spec.target s + entrySize ≤ length (now table) ⌝ }
+    requires { ⌜ HasEntry (now table) (files-spec.target s) ⌝ }
     ensures { λ r. ⌜ (r ≡ rowOf (now (table .entry)) (files-spec.target s)) × RowFits r ⌝ }
 {
     card::row_at(table, target(s))

@@ -29,21 +29,17 @@ use plan::waited;
 use session::Standing;
 ghost use mathlib.Core.Path.{_≡_};
 ghost use mathlib.Core.List.{List};
-ghost use Prim.Native.Nat.{ℕ, _≤_, _<_};
+ghost use Prim.Native.Nat.{ℕ, _<_};
 ghost use lib.ListN.{length};
-ghost use Rattle.card.specs.Row.{lent, entries, rowOf};
-ghost use Rattle.card.specs.Tree.{ParentsInside};
+ghost use Rattle.card.specs.Row.{lent};
 ghost use Rattle.journal.specs.Changes.{cost};
 ghost use Rattle.session.specs.Session.{mostWaiting};
-ghost use Rattle.session.specs.Fcp.{FcpFits};
-ghost use Rattle.session.specs.Select.{find, rowFound};
-ghost use Rattle.command.specs.Instructions as ins;
 ghost use Rattle.plan.specs.Plans.{Situation};
 ghost use Rattle.decide.specs.Order.{selectChecks};
 ghost use Rattle.decide.specs.Fails.{firstFailing};
 ghost use Rattle.decide.specs.Decisions.{situation, decided, planned};
 ghost use Rattle.plan.specs.Promised.{writesOf, planOf, Fits, CostOfAsks};
-ghost use Rattle.decide.specs.Promised.{roomed, responded, DecideAsks, Decided};
+ghost use Rattle.decide.specs.Promised.{OfSelect, roomed, responded, DecideSelectAsks, WithRoomAsks, DecideAsks, Decided};
 
 // Returns what is decided of GET RESPONSE, after the formal checks.
 fn get_response(c: Command, s: Standing) -> Decision
@@ -72,8 +68,8 @@ fn decide_select(
     table: &[u8],
     made: &mut [u8],
 ) -> Decision
-    requires { ⌜ (length (now made) ≡ mostWaiting) × (c .instruction ≡ ins.select) × ((e : ℕ) → find (now table) (s .root) (s .directory) (c .p1) (now «data») ≡ Found.At e → (e < entries (now table)) × (e < 256) × FcpFits (rowOf (now table) e)) × (s .root < entries (now table)) × (s .directory < entries (now table)) × ParentsInside (now table) ⌝ }
-    ensures { λ d. ⌜ ((w : Situation) → w .format ≡ format → w .command ≡ c → w .«data» ≡ now («data» .entry) → w .session ≡ s → w .found ≡ find (now (table .entry)) (s .root) (s .directory) (c .p1) (now («data» .entry)) → w .row ≡ rowFound (now (table .entry)) (find (now (table .entry)) (s .root) (s .directory) (c .p1) (now («data» .entry))) → planOf d (now («data» .entry)) (now (made .exit)) ≡ decided w (firstFailing w selectChecks)) × (d .change ≡ Change.Nothing) ⌝ }
+    requires { ⌜ DecideSelectAsks (now table) (now «data») s c (now made) ⌝ }
+    ensures { λ d. ⌜ ((w : Situation) → OfSelect format c (now («data» .entry)) s (now (table .entry)) w → planOf d (now («data» .entry)) (now (made .exit)) ≡ decided w (firstFailing w selectChecks)) × (d .change ≡ Change.Nothing) ⌝ }
 {
     if !path_length_fits(c.p1, data.len()) {
         return failed(s, Check::WrongPathLength);
@@ -106,7 +102,7 @@ fn cost_of(change: Change, lc: usize) -> usize
 
 // Returns a decision, or 6581 where the journal has no room for what it writes.
 fn with_room(d: Decision, s: Standing, lc: usize, used: usize, room: usize) -> Decision
-    requires { ⌜ (lc < 256) × (used < 65536) × (used ≤ room) × CostOfAsks (d .change) ⌝ }
+    requires { ⌜ WithRoomAsks (d .change) lc used room ⌝ }
     ensures { λ r. ⌜ ((«data» bytes : List ℕ) → length «data» ≡ lc → length bytes ≡ mostWaiting → planOf r «data» bytes ≡ roomed used room s (planOf d «data» bytes)) × ((t f : ℕ) → Fits t f lc (d .change) → Fits t f lc (r .change)) ⌝ }
 {
     let change = d.change;

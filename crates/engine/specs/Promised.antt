@@ -1,5 +1,5 @@
 -- What the functions of a run ask and promise besides the paper's rules.
-use Prim.Native.Nat.{ℕ, _≤_, _<_}
+use Prim.Native.Nat.{ℕ, _+_, _≤_, _<_}
 use mathlib.Core.List.{List}
 use lib.ListN.{length}
 use Rattle.card.specs.Row.{Card}
@@ -23,7 +23,7 @@ StartFits script (Indefinite at end) = (at ≤ end) × (end ≤ script)
 -- memory have the lengths that the numbers ask for
 pub record RunScriptAsks (format : Format) (c : Card) (application : ℕ) (script response : List ℕ) : Type 0 where
   pub room : HasRoom (c .journal) (entryBytes 0)
-  pub trials : scriptsOnTrial (c .journal) < 255
+  pub trials : scriptsOnTrial (c .journal) + 1 < 256
   pub starts : Starts (withMark c) application
   pub scriptShort : length script ≤ longestScript
   pub responseLong : leastResponse format ≤ length response

@@ -1,6 +1,5 @@
 -- "Expanded": R-APDUs, running a script under the 1,000-byte rule, and the answer.
-use Prim.Native.Nat.{ℕ, zero, suc, _+_, _≤_, _<_}
-use mathlib.Core.Path.{_≡_}
+use Prim.Native.Nat.{ℕ, zero, suc, _+_}
 use mathlib.Core.Bool.{Bool, true, false, not, _||_}
 use mathlib.Core.List.{List, [], _∷_, _++_}
 use lib.ListN.{length, take}
@@ -12,10 +11,7 @@ use Rattle.tlv.specs.declared.template.Template.{Template}
 use Rattle.tlv.specs.declared.template.Template.the-variants.{Definite, Indefinite, Missing}
 use Rattle.tlv.specs.declared.template.Item.the-variants.{Capdu, Bad, End}
 use Rattle.tlv.specs.Lengths.{lengthBytes}
-use Rattle.tlv.specs.Templates.{leastCapdu, itemAt}
-use Rattle.journal.specs.Sound.{soundCard}
-use Rattle.session.specs.Session.{mostWaiting}
-use Rattle.session.specs.Good.{Good}
+use Rattle.tlv.specs.Templates.{itemAt}
 use Rattle.command.specs.declared.Format.the-variants.{Expanded}
 use Rattle.command.specs.declared.Reading.{Reading}
 use Rattle.command.specs.declared.Step.{Step}
@@ -74,17 +70,6 @@ gatheredIn counts step kept n =
 -- the R-APDU of the last command, with the file memory after it
 unfoldable pub lastRapdu : Step → List ℕ → List ℕ
 lastRapdu step files = rapdu (dataOf (step .outcome) files (step .session .waiting)) (wordOf (step .outcome))
-
--- what the run of a C-APDU asks: a card and a session that are sound, few commands before it, and room for what it makes and for its
--- R-APDU
-pub record StepCapduAsks (card : Card) (capdu : List ℕ) (before : Gathered) (out bytes : List ℕ) : Type 0 where
-  pub size : leastCapdu ≤ length capdu
-  pub sound : soundCard card ≡ true
-  pub good : Good (card .table) (before .step .session .standing)
-  pub few : before .step .count < 65535
-  pub kept : before .kept ≤ mostKept
-  pub room : length out ≡ roomToGather
-  pub made : length bytes ≡ mostWaiting
 
 -- the progress after a C-APDU is run
 unfoldable pub stepCapdu : Bool → ℕ → List ℕ → Progress → Progress

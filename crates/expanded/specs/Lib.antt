@@ -1,2 +1,3 @@
 pub mod Capdu
 pub mod Expanded
+pub mod Promised

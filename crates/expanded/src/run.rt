@@ -6,21 +6,22 @@ use crate::reader::next_item;
 use command::Format;
 use command::Outcome;
 use command::Step;
+use command::ends::NORMAL;
 use command::ends::goes_on;
 use command::ends::word_of;
 use tlv::template::Item;
 use tlv::template::capdu;
 ghost use mathlib.Core.Path.{_≡_};
 ghost use mathlib.Core.Bool.{true};
-ghost use Prim.Native.Nat.{_+_, _≤_, _<_};
+ghost use Prim.Native.Nat.{_+_, _≤_};
 ghost use lib.ListN.{length};
 ghost use Rattle.octets.specs.Bytes.{overwrite};
 ghost use Rattle.card.specs.Row.{Card, lent};
-ghost use Rattle.journal.specs.Sound.{Starts};
 ghost use Rattle.command.specs.Outcomes.{wordOf, dataCount, goesOn};
 ghost use Rattle.command.specs.Promised.{OutcomeFits};
 ghost use Rattle.step.specs.Limits.{longestScript, rapduSize, mostKept};
 ghost use Rattle.expanded.specs.Expanded as spec;
+ghost use Rattle.expanded.specs.Promised.{StepCapduAsks, StepBadAsks, RunAsks};
 
 // The bytes that a script's R-APDUs are gathered in: 1,000, and the R-APDU of a last command without data.
 pub const ROOM_TO_GATHER: usize = 1004;
@@ -75,7 +76,7 @@ fn step_capdu(
     files: &mut [u8],
     journal: &mut [u8],
 ) -> Gathered
-    requires { ⌜ spec.StepCapduAsks (lent (now table) (now files) (now journal)) (now capdu) before (now out) (now made) ⌝ }
+    requires { ⌜ StepCapduAsks (lent (now table) (now files) (now journal)) (now capdu) before (now out) (now made) ⌝ }
     ensures { λ r. ⌜ (spec.progressOf r (lent (now (table .exit)) (now (files .exit)) (now (journal .exit))) (now (out .exit)) ≡ spec.stepCapdu definite domain (now (capdu .entry)) (spec.progressOf before (lent (now (table .entry)) (now (files .entry)) (now (journal .entry))) (now (out .entry))))
         × (r .kept + r .last ≤ spec.roomToGather) × (goesOn (wordOf (r .step .outcome)) ≡ true → r .kept ≤ mostKept) ⌝ }
 {
@@ -103,7 +104,7 @@ fn step_capdu(
 
 // Gathers a Bad format TLV as the last command. Returns the script after it.
 fn step_bad(code: usize, before: Gathered, out: &mut [u8]) -> Gathered
-    requires { ⌜ (code < 256) × (before .step .count < 65535) × (before .kept ≤ mostKept) × (length (now out) ≡ spec.roomToGather) ⌝ }
+    requires { ⌜ StepBadAsks code before (now out) ⌝ }
     ensures { λ r. ⌜ ((card : Card) → spec.progressOf r card (now (out .exit)) ≡ spec.stepBad code (spec.progressOf before card (now (out .entry)))) × (r .kept + r .last ≤ spec.roomToGather) ⌝ }
 {
     let kept = before.kept;
@@ -131,14 +132,14 @@ pub fn run(
     files: &mut [u8],
     journal: &mut [u8],
 ) -> Gathered
-    requires { ⌜ (at ≤ end) × (end ≤ length (now script)) × (length (now script) ≤ longestScript) × Starts (lent (now table) (now files) (now journal)) application × (length (now out) ≡ spec.roomToGather) ⌝ }
+    requires { ⌜ RunAsks (now script) at end (lent (now table) (now files) (now journal)) application (now out) ⌝ }
     ensures { λ r. ⌜ (spec.progressOf r (lent (now (table .exit)) (now (files .exit)) (now (journal .exit))) (now (out .exit)) ≡ spec.runFrom (length (now (script .entry))) (now (script .entry)) domain definite at end (spec.begun application (lent (now (table .entry)) (now (files .entry)) (now (journal .entry)))))
         × (r .kept + r .last ≤ spec.roomToGather) × (r .step .count ≤ longestScript) ⌝ }
 {
     let mut g = Gathered {
         step: Step {
             session: session::start(application),
-            outcome: Outcome::Well(0x9000),
+            outcome: Outcome::Well(NORMAL),
             count: 0,
         },
         kept: 0,

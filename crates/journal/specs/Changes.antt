@@ -1,6 +1,5 @@
 -- What changes a card: a mark, a list of writes, a take-back, a confirmation.
-use Prim.Native.Nat.{ℕ, _+_, _-_, _≤_}
-use mathlib.Core.Path.{_≡_}
+use Prim.Native.Nat.{ℕ, _+_, _-_}
 use mathlib.Core.List.{List, [], _∷_, _++_}
 use lib.ListN.{length}
 use lib.Dec.{eqb}
@@ -10,7 +9,7 @@ use Rattle.card.specs.Row.{Card}
 use Rattle.journal.specs.declared.Head.{Head}
 use Rattle.journal.specs.declared.Memory.{Memory}
 use Rattle.journal.specs.declared.Memory.the-variants.{Files, Table}
-use Rattle.journal.specs.Entries.{Entry, headSize, head, headBytes, headOf, usedBytes, scriptsOnTrial, flagOf, entryBytes, encode, holdsFileBytes, holdsTableByte, isMark, mark, entriesOf}
+use Rattle.journal.specs.Entries.{Entry, headSize, head, headBytes, usedBytes, scriptsOnTrial, flagOf, entryBytes, encode, holdsFileBytes, holdsTableByte, isMark, mark, entriesOf}
 
 -- a write: the memory, the place in it, the new bytes
 pub record Write : Type 0 where
@@ -71,15 +70,6 @@ write w c =
     withMemory (w .memory)
     (withJournal c (pushed (c .journal) (scriptsOnTrial (c .journal)) (entryFor w c)))
     (overwrite (memoryOf (w .memory) c) (w .place) (w .new))
-
--- what a write asks for, of n bytes at an offset in a part of a memory: the part lies in the memory and the bytes in the part, the head
--- is the journal's, and the journal, whose used bytes are a 16-bit number, has room for the entry
-pub record WriteFits (memory journal : List ℕ) (h : Head) (start size offset n : ℕ) : Type 0 where
-  pub inside : start + size ≤ length memory
-  pub within : offset + n ≤ size
-  pub head : h ≡ headOf journal
-  pub short : length journal ≤ 65535
-  pub left : headSize + h .used + entryBytes n ≤ length journal
 
 -- a list of writes, the first one first
 unfoldable pub perform : List Write → Card → Card

@@ -1,3 +1,4 @@
 pub mod Entries
 pub mod Sound
 pub mod Changes
+pub mod Promised

@@ -10,6 +10,7 @@ ghost use Prim.Native.Nat.{_+_, _≤_, _<_};
 ghost use lib.ListN.{length};
 ghost use Rattle.journal.specs.Entries.{headOf, room, tailIn, tailAt, formed, readable};
 ghost use Rattle.journal.specs.Sound.{markFits};
+ghost use Rattle.journal.specs.Promised.{TailFits};
 
 // Returns what the journal's head holds.
 pub fn head_of(journal: &[u8]) -> Head
@@ -44,7 +45,7 @@ pub fn mark_fits(journal: &[u8]) -> bool
 // Returns what the eight bytes of a tail hold.
 fn tail_of(bytes: &[u8]) -> Tail
     requires { ⌜ length (now bytes) ≡ 8 ⌝ }
-    ensures { λ r. ⌜ (r ≡ tailIn (now (bytes .entry))) × (r .kind < 256) × (r .place < 65536) × (r .size < 65536) ⌝ }
+    ensures { λ r. ⌜ (r ≡ tailIn (now (bytes .entry))) × TailFits r ⌝ }
 {
     Tail {
         kind: octets::wide(bytes[0]),
@@ -56,7 +57,7 @@ fn tail_of(bytes: &[u8]) -> Tail
 // Returns the tail that ends where the first u bytes of entries end.
 pub(crate) fn tail_at(journal: &[u8], u: usize) -> Tail
     requires { ⌜ (8 ≤ u) × (4 + u ≤ length (now journal)) ⌝ }
-    ensures { λ r. ⌜ (r ≡ tailAt (now (journal .entry)) u) × (r .kind < 256) × (r .place < 65536) × (r .size < 65536) ⌝ }
+    ensures { λ r. ⌜ (r ≡ tailAt (now (journal .entry)) u) × TailFits r ⌝ }
 {
     let at = HEAD_SIZE + u - TAIL_SIZE;
     tail_of(&journal[at..at + TAIL_SIZE])

@@ -12,7 +12,8 @@ ghost use Prim.Native.Nat.{_+_, _≤_, _<_};
 ghost use lib.ListN.{length};
 ghost use Rattle.octets.specs.Bytes.{part, overwrite};
 ghost use Rattle.journal.specs.Entries.{HasRoom, entryBytes, entryOf, headOf, headBytes, scriptsOnTrial, tail};
-ghost use Rattle.journal.specs.Changes.{headAfter, kindFor, marked, pushed, WriteFits};
+ghost use Rattle.journal.specs.Changes.{headAfter, kindFor, marked, pushed};
+ghost use Rattle.journal.specs.Promised.{WriteAsks};
 
 // Returns the eight bytes of a tail.
 fn tail_bytes(kind: u8, place: usize, n: usize) -> [u8; 8]
@@ -49,7 +50,7 @@ fn close(journal: &mut [u8], head: Head, kind: u8, place: usize, n: usize) -> He
 
 // Appends a script's mark: there is one script more on trial after it.
 pub fn mark(journal: &mut [u8])
-    requires { ⌜ HasRoom (now journal) (entryBytes 0) × (scriptsOnTrial (now journal) < 255) ⌝ }
+    requires { ⌜ HasRoom (now journal) (entryBytes 0) × (scriptsOnTrial (now journal) + 1 < 256) ⌝ }
     ensures { λ _. ⌜ now (journal .exit) ≡ marked (now (journal .entry)) ⌝ }
 {
     let head = head_of(journal);
@@ -83,7 +84,7 @@ pub fn write(
     offset: usize,
     new: &[u8],
 ) -> Head
-    requires { ⌜ WriteFits (now memory) (now journal) head start size offset (length (now new)) ⌝ }
+    requires { ⌜ WriteAsks (now memory) (now journal) head start size offset (length (now new)) ⌝ }
     ensures { λ r. ⌜ (now (memory .exit) ≡ overwrite (now (memory .entry)) (start + offset) (now (new .entry)))
         × (now (journal .exit) ≡ pushed (now (journal .entry)) (scriptsOnTrial (now (journal .entry))) (entryOf (kindFor which) (start + offset) (part (now (memory .entry)) (start + offset) (length (now (new .entry))))))
         × (r ≡ headOf (now (journal .exit))) ⌝ }

@@ -17,6 +17,7 @@ use Rattle.octets.proofs.Numbers.{bytesOf-length}
 use Rattle.card.specs.declared.Row.{Row}
 use Rattle.card.specs.Records.{recordOffset}
 use Rattle.session.specs.declared.Standing.{Standing}
+use Rattle.session.specs.Session.{mostWaiting}
 use Rattle.command.specs.Instructions as ins
 use Rattle.plan.specs.Ends.{Plan, failed}
 use Rattle.plan.specs.Files.{File, recordBytes, sum, writeIn, newRecord, sumTooLong}
@@ -80,10 +81,10 @@ module _ {files : List ℕ} {s : Standing} {r : Row} {off : ℕ} {f : File} (h :
   new-length : length new ≡ r .«record_length»
   new-length = bytesOf-length (f .row .«record_length») _ ∙ ap (λ (q : Row). q .«record_length») (h .row)
 
-  pub new-count : r .«record_length» + length «data» ≡ length (new ++ «data»)
-  new-count = let n = new-length in simp length-append (omega arith)
+  pub new-size : r .«record_length» + length «data» ≡ length (new ++ «data»)
+  new-size = let n = new-length in simp length-append (omega arith)
 
-  pub new-bytes : (w₀ : List ℕ) {w₁ w₂ : List ℕ} → length w₀ ≡ 255 → r .«record_length» + length «data» ≤ 255 → w₁ ≡ overwrite w₀ 0 (bytesOf (length (first files r off)) added) → w₂ ≡ overwrite w₁ (r .«record_length») «data» → w₂ ≡ overwrite w₀ 0 (new ++ «data»)
+  pub new-bytes : (w₀ : List ℕ) {w₁ w₂ : List ℕ} → length w₀ ≡ mostWaiting → r .«record_length» + length «data» ≤ mostWaiting → w₁ ≡ overwrite w₀ 0 (bytesOf (length (first files r off)) added) → w₂ ≡ overwrite w₁ (r .«record_length») «data» → w₂ ≡ overwrite w₀ 0 (new ++ «data»)
   new-bytes w₀ {w₁} l k e g =
       let n = new-length in
       let p : r .«record_length» ≡ 0 + length new = omega arith in

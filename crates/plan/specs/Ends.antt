@@ -31,6 +31,10 @@ done s word writes = record { session = dropped s; outcome = Well word; made = [
 unfoldable pub handed : Standing → ℕ → ℕ → ℕ → Plan
 handed s word place n = record { session = dropped s; outcome = FromFiles word place n; made = []; writes = [] }
 
+-- well, with the first n waiting bytes; the session stays
+abbrev pub waited : Standing → ℕ → ℕ → Plan
+waited s word n = record { session = s; outcome = FromWaiting word n; made = []; writes = [] }
+
 -- compact: "SELECT with FCP, a successful search and INCREASE leave waiting bytes with their own word kept, and report 61 and
 -- the length"; expanded: the data are handed out at once, and "Nothing ever waits."
 unfoldable pub produced : Format → Standing → ℕ → List ℕ → List Write → Plan

@@ -111,6 +111,10 @@ foundAmong r content p2 «data» (suc n) number =
 unfoldable pub foundRecords : Row → List ℕ → ℕ → List ℕ → ℕ → List ℕ
 foundRecords r content p2 «data» number = foundAmong r content p2 «data» (toSearch r p2 number) number
 
+-- "INCREASE, .. record length at most 127"
+abbrev pub longestIncrease : ℕ
+longestIncrease = 127
+
 -- "INCREASE, .. record 1 plus the data"
 unfoldable pub sum : Row → List ℕ → List ℕ → ℕ
 sum r content «data» = value (recordBytes r content 1) + value «data»

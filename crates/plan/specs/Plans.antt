@@ -17,10 +17,9 @@ use Rattle.command.specs.declared.Format.{Format}
 use Rattle.command.specs.declared.Format.the-variants.{Compact, Expanded}
 use Rattle.command.specs.declared.Command.{Command}
 use Rattle.command.specs.declared.checks.Check.the-variants.{NotFound}
-use Rattle.command.specs.declared.Outcome.the-variants.{FromWaiting}
 use Rattle.command.specs.Instructions as ins
 use Rattle.command.specs.Instructions.{noData}
-use Rattle.plan.specs.Ends.{Plan, failed, done, handed, produced}
+use Rattle.plan.specs.Ends.{Plan, failed, done, handed, waited, produced}
 use Rattle.command.specs.Outcomes.{normal, endOfData, selectedDeactivated}
 use Rattle.plan.specs.Files.{File, namedRecord, numberAfter, absoluteRecord, foundRecords, sum, writeIn, newRecord}
 
@@ -120,8 +119,7 @@ switch state s f =
 
 -- "C0 GET RESPONSE (compact): the first P3 waiting bytes, 00 all, with the kept word."
 unfoldable pub getResponse : Command → Standing → Plan
-getResponse c s =
-    record { session = s; outcome = FromWaiting (s .word) (pick (eqb (c .p3) 0) (s .valid) (c .p3)); made = []; writes = [] }
+getResponse c s = waited s (s .word) (pick (eqb (c .p3) 0) (s .valid) (c .p3))
 
 -- what an instruction does in a situation where every check holds
 unfoldable pub doneBy : ℕ → Situation → Plan

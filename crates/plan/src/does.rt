@@ -19,18 +19,16 @@ use command::ends::SELECTED_DEACTIVATED;
 use command::instruction::NO_DATA;
 use session::Standing;
 ghost use mathlib.Core.Path.{_≡_};
-ghost use mathlib.Core.Bool.{false};
 ghost use mathlib.Core.List.{List};
 ghost use Prim.Native.Nat.{ℕ, _≤_, _<_, min};
 ghost use lib.ListN.{length};
 ghost use Rattle.octets.specs.Bytes.{part};
-ghost use Rattle.card.specs.Row.{RowFits, isCyclic, placeOfNewest, placeOfState};
+ghost use Rattle.card.specs.Row.{RowFits, placeOfNewest, placeOfState};
 ghost use Rattle.card.specs.Sound.{recordCount};
-ghost use Rattle.session.specs.Session.{mostWaiting};
-ghost use Rattle.session.specs.Fcp.{FcpFits};
+ghost use Rattle.card.specs.Promised.{RecordOffsetAsks};
 ghost use Rattle.command.specs.Instructions as ins;
 ghost use Rattle.plan.specs.Files.{File};
-ghost use Rattle.plan.specs.Promised.{Recorded, planOf, Fits, newestOf, updateChange, summed};
+ghost use Rattle.plan.specs.Promised.{planOf, Fits, newestOf, updateChange, summed, SelectEntryAsks, ReadBinaryAsks, UpdateRecordAsks, SearchAsks, IncreaseAsks};
 ghost use Rattle.plan.specs.Plans as plans;
 
 // Returns the word of a SELECT that finds an entry.
@@ -52,7 +50,7 @@ pub fn select_entry(
     r: Row,
     made: &mut [u8],
 ) -> Decision
-    requires { ⌜ FcpFits r × RowFits r × (e < 256) × (length (now made) ≡ mostWaiting) ⌝ }
+    requires { ⌜ SelectEntryAsks e r (now made) ⌝ }
     ensures { λ d. ⌜ ((«data» : List ℕ) → planOf d «data» (now (made .exit)) ≡ plans.selectEntry format s p2 e r) × (d .change ≡ Change.Nothing) ⌝ }
 {
     let next = session::selected(s, e, r);
@@ -86,7 +84,7 @@ fn least(a: usize, b: usize) -> usize
 
 // Returns what READ BINARY does.
 pub fn read_binary(format: Format, c: Command, s: Standing, r: Row) -> Decision
-    requires { ⌜ RowFits r × (c .p1 < 256) × (c .p2 < 256) × (plans.offsetOf c < r .size) ⌝ }
+    requires { ⌜ ReadBinaryAsks c r ⌝ }
     ensures { λ d. ⌜ ((«data» bytes : List ℕ) (f : File) → f .row ≡ r → planOf d «data» bytes ≡ plans.readBinary format c s f) × (d .change ≡ Change.Nothing) ⌝ }
 {
     let offset = c.p1 * 256 + c.p2;
@@ -112,7 +110,7 @@ pub fn update_binary(c: Command, s: Standing, r: Row) -> Decision
 
 // Returns what READ RECORD does.
 pub fn read_record(c: Command, s: Standing, r: Row) -> Decision
-    requires { ⌜ RowFits r × (1 ≤ r .«record_length») × (recordCount r < 256) × (1 ≤ plans.namedBy c (s .«record_number») r) × (plans.namedBy c (s .«record_number») r ≤ recordCount r) ⌝ }
+    requires { ⌜ RecordOffsetAsks r (plans.namedBy c (s .«record_number») r) × (recordCount r < 256) ⌝ }
     ensures { λ d. ⌜ ((«data» bytes : List ℕ) (f : File) → f .row ≡ r → planOf d «data» bytes ≡ plans.readRecord c s f) × (d .change ≡ Change.Nothing) ⌝ }
 {
     let current = s.record_number as usize;
@@ -138,7 +136,7 @@ fn new_record(file: usize, r: Row) -> NewRecord
 
 // Returns what UPDATE RECORD does.
 pub fn update_record(c: Command, s: Standing, r: Row) -> Decision
-    requires { ⌜ RowFits r × (1 ≤ r .«record_length») × (1 ≤ recordCount r) × (recordCount r < 256) × (isCyclic r ≡ false → (1 ≤ plans.namedBy c (s .«record_number») r) × (plans.namedBy c (s .«record_number») r ≤ recordCount r)) ⌝ }
+    requires { ⌜ UpdateRecordAsks c s r ⌝ }
     ensures { λ d. ⌜ ((«data» bytes : List ℕ) (f : File) → f .row ≡ r → f .entry ≡ s .file → planOf d «data» bytes ≡ plans.updateRecord c «data» s f) × (d .change ≡ updateChange c s r) ⌝ }
 {
     if r.kind == card::CYCLIC {
@@ -162,7 +160,7 @@ pub fn search_records(
     files: &[u8],
     made: &mut [u8],
 ) -> Decision
-    requires { ⌜ Recorded (length (now files)) r × (c .instruction ≡ ins.search) × (1 ≤ plans.namedBy c (s .«record_number») r) × (plans.namedBy c (s .«record_number») r ≤ recordCount r) × (length (now made) ≡ mostWaiting) ⌝ }
+    requires { ⌜ (c .instruction ≡ ins.search) × SearchAsks (now files) r (plans.namedBy c (s .«record_number») r) (now made) ⌝ }
     ensures { λ d. ⌜ ((f : File) → f .row ≡ r → f .content ≡ part (now (files .entry)) (r .start) (r .size) → planOf d (now («data» .entry)) (now (made .exit)) ≡ plans.search format c (now («data» .entry)) s f) × (d .change ≡ Change.Nothing) ⌝ }
 {
     let number = record_of(c, s.record_number as usize, r);
@@ -183,7 +181,7 @@ pub fn increase(
     files: &[u8],
     made: &mut [u8],
 ) -> Decision
-    requires { ⌜ Recorded (length (now files)) r × (r .«record_length» ≤ 127) × (length (now «data») ≤ r .«record_length») × (length (now made) ≡ mostWaiting) ⌝ }
+    requires { ⌜ IncreaseAsks (now files) (now «data») r (now made) ⌝ }
     ensures { λ d. ⌜ ((f : File) → f .row ≡ r → f .entry ≡ s .file → f .content ≡ part (now (files .entry)) (r .start) (r .size) → planOf d (now («data» .entry)) (now (made .exit)) ≡ summed ins.increase f (now («data» .entry)) s (plans.increase format (now («data» .entry)) s f)) × ((t : ℕ) → placeOfNewest (s .file) < t → Fits t (length (now (files .entry))) (length (now («data» .entry))) (d .change)) ⌝ }
 {
     let record = r.record_length;

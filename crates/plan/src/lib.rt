@@ -93,7 +93,7 @@ fn handed(s: Standing, word: usize, place: usize, n: usize) -> Decision
 
 // Returns the decision of a command that ends well, with the first n waiting bytes, and leaves the session as it is.
 pub fn waited(s: Standing, word: usize, n: usize) -> Decision
-    ensures { λ d. ⌜ (d .session ≡ s) × (d .outcome ≡ Outcome.FromWaiting word n) × (d .made ≡ 0) × (d .change ≡ Change.Nothing) ⌝ }
+    ensures { λ d. ⌜ ((«data» bytes : List ℕ) → planOf d «data» bytes ≡ spec.waited s word n) × (d .change ≡ Change.Nothing) ⌝ }
 {
     Decision {
         session: s,

@@ -7,9 +7,8 @@ ghost use Prim.Native.Nat.{_+_, _≤_, _<_};
 ghost use lib.ListN.{length};
 ghost use Rattle.octets.specs.Bytes.{part, overwrite, contains};
 ghost use Rattle.card.specs.Sound.{recordCount};
-ghost use Rattle.session.specs.Session.{mostWaiting};
 ghost use Rattle.plan.specs.Files as spec;
-ghost use Rattle.plan.specs.Promised.{Recorded};
+ghost use Rattle.plan.specs.Promised.{Recorded, ToSearchAsks, SearchAsks};
 
 // "A2 SEARCH, P2 04 from record P1 .. to the last, 05 back to the first"
 pub const SEARCH_FORWARD: usize = 4;
@@ -51,7 +50,7 @@ fn next_searched(p2: usize, number: usize) -> usize
 
 // Returns how many records are to be searched from a number on.
 fn to_search(r: Row, p2: usize, number: usize) -> usize
-    requires { ⌜ (1 ≤ r .«record_length») × (1 ≤ number) × (number ≤ recordCount r) × (recordCount r < 255) ⌝ }
+    requires { ⌜ ToSearchAsks r number ⌝ }
     ensures { λ n. ⌜ n ≡ spec.toSearch r p2 number ⌝ }
 {
     if p2 == SEARCH_FORWARD {
@@ -70,7 +69,7 @@ pub(crate) fn search(
     data: &[u8],
     out: &mut [u8],
 ) -> usize
-    requires { ⌜ Recorded (length (now files)) r × (1 ≤ from) × (from ≤ recordCount r) × (length (now out) ≡ mostWaiting) ⌝ }
+    requires { ⌜ SearchAsks (now files) r from (now out) ⌝ }
     ensures { λ n. ⌜ (now (out .exit) ≡ overwrite (now (out .entry)) 0 (spec.foundRecords r (part (now (files .entry)) (r .start) (r .size)) p2 (now («data» .entry)) from))
         × (n ≡ length (spec.foundRecords r (part (now (files .entry)) (r .start) (r .size)) p2 (now («data» .entry)) from)) ⌝ }
 {

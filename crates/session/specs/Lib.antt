@@ -3,3 +3,4 @@ pub mod Session
 pub mod Select
 pub mod Fcp
 pub mod Good
+pub mod Promised

@@ -70,7 +70,7 @@ fn record_descriptor(r: Row) -> u8
 
 // Returns the FCP of a record file.
 fn of_records(r: Row) -> [u8; 20]
-    requires { ⌜ (5 ≤ r .kind) × (r .kind ≤ 6) × FcpFits r × RowFits r ⌝ }
+    requires { ⌜ (5 ≤ r .kind) × FcpFits r × RowFits r ⌝ }
     ensures { λ b. ⌜ b ≡ spec.fcp r ⌝ }
 {
     let count = card::records::record_count(r);

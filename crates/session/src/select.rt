@@ -5,7 +5,7 @@ ghost use mathlib.Core.Path.{_≡_};
 ghost use Prim.Native.Nat.{_≤_, _<_};
 ghost use lib.ListN.{length};
 ghost use Rattle.card.specs.Row.{entries};
-ghost use Rattle.card.specs.Tree.{ParentsInside};
+ghost use Rattle.session.specs.Promised.{StandsIn};
 ghost use Rattle.session.specs.Select as spec;
 
 // Returns entry e, if it has the identifier.
@@ -33,7 +33,7 @@ fn above(table: &[u8], parent: usize, identifier: usize) -> Found
 
 // Returns what an identifier finds from a root and a directory: "P1 00".
 fn by_identifier(table: &[u8], root: usize, directory: usize, identifier: usize) -> Found
-    requires { ⌜ (root < entries (now table)) × (directory < entries (now table)) × ParentsInside (now table) ⌝ }
+    requires { ⌜ StandsIn (now table) root directory ⌝ }
     ensures { λ f. ⌜ f ≡ spec.byIdentifier (now (table .entry)) root directory identifier ⌝ }
 {
     if let Found::At(e) = if_named(table, root, identifier) {
@@ -70,7 +70,7 @@ fn by_path(table: &[u8], from: usize, path: &[u8]) -> Found
 
 // Returns the entry that a SELECT finds, from a root and a directory, with its P1 and data.
 pub fn find(table: &[u8], root: usize, directory: usize, p1: usize, data: &[u8]) -> Found
-    requires { ⌜ (root < entries (now table)) × (directory < entries (now table)) × ParentsInside (now table) × (2 ≤ length (now «data»)) ⌝ }
+    requires { ⌜ StandsIn (now table) root directory × (2 ≤ length (now «data»)) ⌝ }
     ensures { λ f. ⌜ f ≡ spec.find (now (table .entry)) root directory p1 (now («data» .entry)) ⌝ }
 {
     if p1 == 0 {

@@ -14,7 +14,8 @@ use Rattle.journal.specs.Entries.{Entry, entryOf, entryBytes, encode, scriptsOn
 use Rattle.journal.specs.Changes.{memoryOf, withJournal, withMemory, pushed, kindFor, entryFor, write, perform, cost}
 use Rattle.journal.proofs.Tails.{encode-length}
 use Rattle.journal.proofs.Pushed.{pushed-length, pushed-used}
-use Rattle.plan.specs.Promised.{recordWrites, writesOf, WriteRecordFits, Fits}
+use Rattle.plan.specs.Promised.{recordWrites, writesOf, Fits}
+use Rattle.step.specs.Promised.{WriteRecordAsks}
 use Rattle.plan.specs.declared.NewRecord.{NewRecord}
 use Rattle.plan.specs.declared.Change.{Change}
 
@@ -52,7 +53,7 @@ table-write t f j place new {at} e ht hj =
     one-write Table (lent t f j) (at + 0) (new ∷ []) ht hj ∙ ap (λ (p : ℕ). write (record { memory = Table; place = p; new = new ∷ [] }) (lent t f j)) z
 
 -- the two writes of a new record
-module _ (t f j : List ℕ) {h : Head} (r : NewRecord) (new : List ℕ) (ready : WriteRecordFits t f j h r new) where
+module _ (t f j : List ℕ) {h : Head} (r : NewRecord) (new : List ℕ) (ready : WriteRecordAsks t f j h r new) where
   abbrev place : ℕ
   place = r .start + r .«record_length» * r .place
 

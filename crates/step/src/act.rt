@@ -9,14 +9,13 @@ use plan::Decision;
 use plan::NewRecord;
 use session::Standing;
 ghost use mathlib.Core.Path.{_≡_};
-ghost use Prim.Native.Nat.{_+_, _<_};
 ghost use lib.ListN.{length};
 ghost use Rattle.card.specs.Row.{lent};
-ghost use Rattle.journal.specs.Entries.{HasRoom};
 ghost use Rattle.journal.specs.Changes as changes;
 ghost use Rattle.session.specs.Session.{mostWaiting, sessionOf};
 ghost use Rattle.step.specs.Steps.{carriedOut, movedTo};
-ghost use Rattle.plan.specs.Promised.{recordWrites, writesOf, planOf, WriteRecordFits, Fits};
+ghost use Rattle.plan.specs.Promised.{recordWrites, writesOf, planOf};
+ghost use Rattle.step.specs.Promised.{WriteRecordAsks, PerformAsks};
 
 // Writes a new record of a cyclic file: its bytes at the oldest place, then the newest place.
 fn write_record(
@@ -27,7 +26,7 @@ fn write_record(
     r: NewRecord,
     new: &[u8],
 )
-    requires { ⌜ WriteRecordFits (now table) (now files) (now journal) head r (now new) ⌝ }
+    requires { ⌜ WriteRecordAsks (now table) (now files) (now journal) head r (now new) ⌝ }
     ensures { λ _. ⌜ lent (now (table .exit)) (now (files .exit)) (now (journal .exit)) ≡ changes.perform (recordWrites r (now (new .entry))) (lent (now (table .entry)) (now (files .entry)) (now (journal .entry))) ⌝ }
 {
     let place = r.place;
@@ -63,7 +62,7 @@ pub fn perform(
     files: &mut [u8],
     journal: &mut [u8],
 )
-    requires { ⌜ Fits (length (now table)) (length (now files)) (length (now «data»)) change × (length (now made) ≡ mostWaiting) × (length (now journal) < 65536) × HasRoom (now journal) (changes.cost (writesOf change (now «data») (now made))) ⌝ }
+    requires { ⌜ PerformAsks (lent (now table) (now files) (now journal)) change (now «data») (now made) ⌝ }
     ensures { λ _. ⌜ lent (now (table .exit)) (now (files .exit)) (now (journal .exit)) ≡ changes.perform (writesOf change (now («data» .entry)) (now (made .entry))) (lent (now (table .entry)) (now (files .entry)) (now (journal .entry))) ⌝ }
 {
     match change {
@@ -115,7 +114,7 @@ pub fn carry_out(
     files: &mut [u8],
     journal: &mut [u8],
 ) -> Done
-    requires { ⌜ Fits (length (now table)) (length (now files)) (length (now «data»)) (d .change) × (length (now made) ≡ mostWaiting) × (length (now waiting) ≡ mostWaiting) × (length (now journal) < 65536) × HasRoom (now journal) (changes.cost (planOf d (now «data») (now made) .writes)) ⌝ }
+    requires { ⌜ PerformAsks (lent (now table) (now files) (now journal)) (d .change) (now «data») (now made) × (length (now waiting) ≡ mostWaiting) ⌝ }
     ensures { λ r. ⌜ movedTo (sessionOf (r .standing) (now (waiting .exit))) (r .outcome) (lent (now (table .exit)) (now (files .exit)) (now (journal .exit)))
         ≡ carriedOut (planOf d (now («data» .entry)) (now (made .entry))) (now (waiting .entry)) (lent (now (table .entry)) (now (files .entry)) (now (journal .entry))) ⌝ }
 {

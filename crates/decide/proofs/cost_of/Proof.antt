@@ -1,7 +1,7 @@
 -- `decide::cost_of` meets its contract: the cost of each change.
 -- The match tells which change was given. Each arm returns 0 or the sum of what `entry_bytes` gives for one or two entries, which
 -- is `costOf` of that change, and `known-cost` carries this over to the writes of the change as it was given. The data are below
--- 256 bytes and a sum's record is at most 255 (`Brief`), so no sum is too large for a machine word. The points of the walk are
+-- 256 bytes and a sum's record is at most 255 (`CostOfAsks`), so no sum is too large for a machine word. The points of the walk are
 -- where the match tells, and the first of two calls. Assumes nothing.
 use mathlib.Core.Path.{refl}
 use Prim.Native.Nat.{_+_}

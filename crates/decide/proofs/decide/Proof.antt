@@ -4,7 +4,7 @@
 -- plan (`nothing`), or a file command was decided but for the journal's room and then held to it (`roomed-so`). Assumes nothing.
 use mathlib.Core.Path.{_≡_, refl, sym, ap, _∙_}
 use mathlib.Core.List.{List, []}
-use Prim.Native.Nat.{ℕ, _≤_, _<_}
+use Prim.Native.Nat.{ℕ}
 use native.Mathlib.Omega.{arith}
 use borrow.Author.Needs.{needs}
 use borrow.Author.Tests.{ne-eqb}
@@ -12,6 +12,7 @@ use lib.ListN.{length}
 use Rattle.card.specs.Row.{Card, lent}
 use Rattle.card.proofs.Promises.{few-entries}
 use Rattle.journal.proofs.Pushed.{own-used}
+use Rattle.session.specs.Session.{mostWaiting}
 use Rattle.session.proofs.Template.{fcp-fits}
 use Rattle.session.proofs.Owned.{parents-inside}
 use Rattle.session.proofs.Good.{find-belongs}
@@ -23,12 +24,12 @@ use Rattle.plan.specs.Ends.{failed}
 use Rattle.plan.specs.Plans.{Situation}
 use Rattle.decide.specs.Order.{formalChecks}
 use Rattle.decide.specs.Fails.{firstFailing}
-use Rattle.decide.specs.Promised.{FirstOf, Formal, behindForm, Unroomed, Decided}
+use Rattle.decide.specs.Promised.{FirstOf, Formal, WithRoomAsks, behindForm, Unroomed, Decided}
 use Rattle.decide.specs.Decisions.{situation, planned}
 use Rattle.plan.specs.declared.Change.{Change}
 use Rattle.plan.specs.declared.Change.the-variants.{Nothing}
 use Rattle.plan.specs.declared.Decision.{Decision}
-use Rattle.plan.specs.Promised.{planOf, Fits, CostOfAsks}
+use Rattle.plan.specs.Promised.{planOf, Fits}
 use Rattle.decide.proofs.Costs.{fits-brief}
 use Rattle.decide.proofs.Plans.{form-fails, behind, behind-select, behind-response, none-known, unknown-fails, Fails, nothing-decided}
 use Rattle.decide.proofs.Passed.{able, own-formal, journal-parts, journal-inside, WithRoom, room-decided}
@@ -115,17 +116,16 @@ decide-select-requires c κs =
     let t = s .args .table .now in
     let files = s .args .files .now in
     let sound = able (s .pre .0) .table in
-    let g = s .pre .0 .good in (
-      s .pre .1,
-      at-select .if1 .taken,
-      λ e h.
+    let g = s .pre .0 .good in
+    record {
+      instruction = at-select .if1 .taken;
+      stands = record { rootInside = g .rootInside; directoryInside = g .directory .inside; parentsInside = parents-inside t files sound };
+      found = λ e h.
           let b = find-belongs t files sound (s .args .s) g (s .args .c .p1) (s .args .«data» .now) e h in
           let few = few-entries t files sound in
-          (b .inside, omega (arith, b .inside), fcp-fits t files sound e (b .inside)),
-      g .rootInside,
-      g .directory .inside,
-      parents-inside t files sound,
-    )
+          record { inside = b .inside; byte = omega (arith, b .inside); fcp = fcp-fits t files sound e (b .inside) };
+      made = s .pre .1;
+    }
 
 same-length : tie.Need-same-length
 same-length c = search needs
@@ -138,7 +138,7 @@ returns-2 c =
     let at-told = at-found .before .before in
     let s = start (at-select .before) in
     nothing s
-    (at-found .decide-select .ensures .0 (whole s) refl refl refl refl refl refl
+    (at-found .decide-select .ensures .0 (whole s) (record { sameFormat = refl; command = refl; sameData = refl; session = refl; found = refl; row = refl })
     ∙ behind-select (whole s) (at-select .if1 .taken)
     ∙ form-passed s (at-told .before .before .formal-check .ensures) (at-told .enum-told .given .1))
     (at-found .decide-select .ensures .1)
@@ -189,15 +189,16 @@ module _ (c : tie.After-room-of) where
   abbrev origin : tie.Start
   origin = start (known c)
 
-  roomy : (change : Change) → Fits (length (origin .args .table .now)) (length (origin .args .files .now)) (length (origin .args .«data» .now)) change → (length (origin .args .«data» .now) < 256) × (c .before .head-of .result .used < 65536) × (c .before .head-of .result .used ≤ c .room-of .result) × CostOfAsks change
-  roomy change h = (
-    origin .pre .0 .bytes .brief,
-    c .before .head-of .ensures .1,
-    rw (own-used _ (c .before .head-of .ensures .0), c .room-of .ensures) (journal-parts (origin .pre .0) .used),
-    fits-brief _ _ _ change h,
-  )
+  roomy : (change : Change) → Fits (length (origin .args .table .now)) (length (origin .args .files .now)) (length (origin .args .«data» .now)) change → WithRoomAsks change (length (origin .args .«data» .now)) (c .before .head-of .result .used) (c .room-of .result)
+  roomy change h =
+      record {
+        brief = origin .pre .0 .bytes .brief;
+        narrow = c .before .head-of .ensures .1;
+        inside = rw (own-used _ (c .before .head-of .ensures .0), c .room-of .ensures) (journal-parts (origin .pre .0) .used);
+        cost = fits-brief _ _ _ change h;
+      }
 
-  roomed-so : {bytes : List ℕ} {d e : Decision} → length bytes ≡ 255 → Unroomed (origin .args .format) (origin .args .domain) (origin .args .c) (origin .args .«data» .now) (origin .args .s) (origin .args .table .now) (origin .args .files .now) bytes d → WithRoom d (origin .args .s) (length (origin .args .«data» .now)) (c .before .head-of .result .used) (c .room-of .result) e → Decided (cardOf origin) (origin .args .«data» .now) bytes (planned (whole origin)) e
+  roomed-so : {bytes : List ℕ} {d e : Decision} → length bytes ≡ mostWaiting → Unroomed (origin .args .format) (origin .args .domain) (origin .args .c) (origin .args .«data» .now) (origin .args .s) (origin .args .table .now) (origin .args .files .now) bytes d → WithRoom d (origin .args .s) (length (origin .args .«data» .now)) (c .before .head-of .result .used) (c .room-of .result) e → Decided (cardOf origin) (origin .args .«data» .now) bytes (planned (whole origin)) e
   roomed-so {bytes} =
       let a = origin .args in
       let at-response = c .before .before in

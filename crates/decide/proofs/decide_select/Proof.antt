@@ -30,9 +30,9 @@ failed-requires c κs = search needs
 
 returns : tie.Need-returns
 returns c = (
-  λ w f k d s g t.
-      c .failed .ensures .0 (c .before .before .before .before .before .before .args .«data» .now) _ ∙ (λ i. failed (sym s i) WrongPathLength)
-      ∙ select-wrong w ((λ i. pathLengthFits (k i .p1) (length (d i))) ∙ told-false (c .before .before .path-length-fits .ensures) (c .before .if1 .taken)),
+  λ w so.
+      c .failed .ensures .0 (c .before .before .before .before .before .before .args .«data» .now) _ ∙ (λ i. failed (sym (so .session) i) WrongPathLength)
+      ∙ select-wrong w ((λ i. pathLengthFits (so .command i .p1) (length (so .sameData i))) ∙ told-false (c .before .before .path-length-fits .ensures) (c .before .if1 .taken)),
   c .failed .ensures .1,
 )
 
@@ -57,7 +57,7 @@ find-requires : tie.Need-find-requires
 find-requires c κs =
     let k = c .before .before in
     let s = start k in
-    (s .pre .3, s .pre .4, s .pre .5, path-some (s .args .c .p1) (length (s .args .«data» .now)) (fitting k))
+    (s .pre .stands, path-some (s .args .c .p1) (length (s .args .«data» .now)) (fitting k))
 
 enum-known-e : tie.Need-enum-known-e
 enum-known-e c = search needs
@@ -70,9 +70,9 @@ failed-requires-2 c κs = search needs
 
 returns-2 : tie.Need-returns-2
 returns-2 c = (
-  λ w f k d s g t.
-      c .failed2 .ensures .0 (start (c .before .before .before .before .before .before) .args .«data» .now) _ ∙ (λ i. failed (sym s i) NotFound)
-      ∙ select-lost w (fitting-so (c .before .before .before .before .before .before) w k d) (g ∙ sym (c .before .before .before .find .ensures) ∙ c .before .enum-told .given .1),
+  λ w so.
+      c .failed2 .ensures .0 (start (c .before .before .before .before .before .before) .args .«data» .now) _ ∙ (λ i. failed (sym (so .session) i) NotFound)
+      ∙ select-lost w (fitting-so (c .before .before .before .before .before .before) w (so .command) (so .sameData)) (so .found ∙ sym (c .before .before .before .find .ensures) ∙ c .before .enum-told .given .1),
   c .failed2 .ensures .1,
 )
 
@@ -90,14 +90,19 @@ module _ (c : tie.After-e) where
 row-at-requires : tie.Need-row-at-requires
 row-at-requires c κs =
     let k = c .before in
-    omega (arith, origin k .pre .2 (found k) (there k) .0)
+    omega (arith, origin k .pre .found (found k) (there k) .inside)
 
 select-entry-requires : tie.Need-select-entry-requires
 select-entry-requires c κs =
     let k = c .before .before .before in
     let p = origin k .pre in
-    let h = p .2 (found k) (there k) in
-    (rw (c .before .row-at .ensures .0) (h .2), c .before .row-at .ensures .1, h .1, p .0)
+    let h = p .found (found k) (there k) in
+    record {
+      fcp = rw (c .before .row-at .ensures .0) (h .fcp);
+      row = c .before .row-at .ensures .1;
+      entry = h .byte;
+      made = p .made;
+    }
 
 same-length : tie.Need-same-length
 same-length c = search needs
@@ -108,10 +113,10 @@ returns-3 c =
     let n = c .before .before .before .before .before .before in
     let z = origin n in
     let e = found n in (
-      λ w f k d s g t.
+      λ w so.
           c .before .before .select-entry .ensures .0 (z .args .«data» .now)
-          ∙ (λ i. selectEntry (sym f i) (sym s i) (sym k i .p2) e ((c .before .before .before .before .row-at .ensures .0 ∙ sym (ap (rowFound (z .args .table .now)) (there n)) ∙ sym t) i))
-          ∙ select-found w (fitting-so (n .before .before .before .before .before) w k d) e (g ∙ there n) (ap (λ (q : Command). q .instruction) k ∙ z .pre .1),
+          ∙ (λ i. selectEntry (sym (so .sameFormat) i) (sym (so .session) i) (sym (so .command) i .p2) e ((c .before .before .before .before .row-at .ensures .0 ∙ sym (ap (rowFound (z .args .table .now)) (there n)) ∙ sym (so .row)) i))
+          ∙ select-found w (fitting-so (n .before .before .before .before .before) w (so .command) (so .sameData)) e (so .found ∙ there n) (ap (λ (q : Command). q .instruction) (so .command) ∙ z .pre .instruction),
       c .before .before .select-entry .ensures .1,
     )
 

@@ -2,7 +2,6 @@
 use borrow.Author.Tests.{eq-eqb, ne-eqb, lt-ltb, le-ltb}
 use Rattle.octets.specs.Choice.{pick}
 use Rattle.plan.specs.Plans.{getResponse}
-use Rattle.plan.specs.Promised.{planOf, writesOf}
 use Rattle.decide.specs.Promised.{responded}
 use borrow.Author.Needs.{needs}
 use Rattle.decide.proofs.get_response.Statement.{statement}
@@ -32,15 +31,23 @@ waited-requires : tie.Need-waited-requires
 waited-requires c κs = search needs
 
 returns-3 : tie.Need-returns-3
-unfolding planOf writesOf responded getResponse pick
-returns-3 c = (λ «data» bytes. rw (ne-eqb _ _ (c .before .before .before .before .before .if1 .left), le-ltb _ _ (c .before .before .before .if2 .left), eq-eqb _ _ (c .before .if3 .taken)) (rw (c .waited .ensures .0, c .waited .ensures .1, c .waited .ensures .2, c .waited .ensures .3)), c .waited .ensures .3)
+unfolding responded getResponse pick
+returns-3 c =
+    let at-if3 = c .before in
+    let at-else2 = at-if3 .before .before in
+    let at-else1 = at-else2 .before .before in
+    (λ «data» bytes. rw (ne-eqb _ _ (at-else1 .if1 .left), le-ltb _ _ (at-else2 .if2 .left), eq-eqb _ _ (at-if3 .if3 .taken)) (c .waited .ensures .0 «data» bytes), c .waited .ensures .1)
 
 waited-requires-2 : tie.Need-waited-requires-2
 waited-requires-2 c κs = search needs
 
 returns-4 : tie.Need-returns-4
-unfolding planOf writesOf responded getResponse pick
-returns-4 c = (λ «data» bytes. rw (ne-eqb _ _ (c .before .before .before .before .before .if1 .left), le-ltb _ _ (c .before .before .before .if2 .left), ne-eqb _ _ (c .before .if3 .left)) (rw (c .waited2 .ensures .0, c .waited2 .ensures .1, c .waited2 .ensures .2, c .waited2 .ensures .3)), c .waited2 .ensures .3)
+unfolding responded getResponse pick
+returns-4 c =
+    let at-else3 = c .before in
+    let at-else2 = at-else3 .before .before in
+    let at-else1 = at-else2 .before .before in
+    (λ «data» bytes. rw (ne-eqb _ _ (at-else1 .if1 .left), le-ltb _ _ (at-else2 .if2 .left), ne-eqb _ _ (at-else3 .if3 .left)) (c .waited2 .ensures .0 «data» bytes), c .waited2 .ensures .1)
 
 pub get-response-spec : {M : Type 1} → statement M
 get-response-spec =

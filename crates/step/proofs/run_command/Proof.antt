@@ -4,9 +4,11 @@ use native.Mathlib.Omega.{arith}
 use lib.ListN.{length}
 use Rattle.card.specs.Row.{Card, lent}
 use Rattle.journal.specs.Entries.{HasRoom}
+use Rattle.journal.specs.Sound.{journalLength}
 use Rattle.journal.specs.Changes.{cost}
 use Rattle.journal.proofs.Parts.{card-parts}
 use Rattle.plan.specs.Ends.{Plan}
+use Rattle.plan.specs.Promised.{planOf}
 use Rattle.step.specs.Steps.{carriedOut}
 use Rattle.step.proofs.Limited.{decided-few}
 use borrow.Author.Needs.{needs}
@@ -42,16 +44,19 @@ abbrev decided : tie.After-limited → tie.After-decide
 decided c = c .before .before .before
 
 carry-out-requires : tie.Need-carry-out-requires
+unfolding planOf
 carry-out-requires c κs =
     let at-limited = c .before .before .before .before .before in
     let s = start (decided at-limited) in
     let d = at-limited .limited .ensures _ _ _ _ (decided at-limited .decide .ensures) in
-    let whole : length (s .args .journal .now) ≡ 2048 = card-parts (cardOf s) (s .pre .0 .ready .sound) .size in (
-      d .fits,
-      search needs,
+    let whole : length (s .args .journal .now) ≡ journalLength = card-parts (cardOf s) (s .pre .0 .ready .sound) .size in (
+      record {
+        fits = d .fits;
+        made = search needs;
+        short = omega arith;
+        left = subst (λ (p : Plan). HasRoom (s .args .journal .now) (cost (p .writes))) (sym (d .same)) (d .journal);
+      },
       s .pre .1,
-      omega arith,
-      subst (λ (p : Plan). HasRoom (s .args .journal .now) (cost (p .writes))) (sym (d .same)) (d .journal),
     )
 
 same-length : tie.Need-same-length

@@ -51,7 +51,7 @@ increase-requires c κs =
     let k = c .before in
     let p = start (row-at k) .pre in
     let n = to-sum (known k) (p .1) in
-    (n .0, n .1, n .2, p .2)
+    record { file = n .0; short = n .1; fits = n .2; made = p .2 }
 
 same-length : tie.Need-same-length
 same-length c = search needs

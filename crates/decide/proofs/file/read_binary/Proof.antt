@@ -50,7 +50,8 @@ module _ (c : tie.After-enum-told) where
 read-binary-requires : tie.Need-read-binary-requires
 read-binary-requires c κs =
     let p = start (row-at c) .pre in
-    (row-at c .target-row .ensures .1, p .0 .bytes .p1, p .0 .bytes .p2, to-read (known c) (p .1))
+    let b = p .0 .bytes in
+    record { row = row-at c .target-row .ensures .1; p1 = b .p1; p2 = b .p2; inside = to-read (known c) (p .1) }
 
 returns-2 : tie.Need-returns-2
 unfolding situation fileAt doneBy pick

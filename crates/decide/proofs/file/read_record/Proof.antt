@@ -52,8 +52,7 @@ read-record-requires : tie.Need-read-record-requires
 read-record-requires c κs =
     let p = start (row-at c) .pre in
     let has = of-records (known c) (rw (p .1)) in
-    let n = has-named (known c) (rw (p .1)) (rw (p .1)) in
-    (has .narrow, has .least, omega (arith, has .most), n .0, n .1)
+    (has-named (known c) (rw (p .1)) (rw (p .1)), omega (arith, has .most))
 
 returns-2 : tie.Need-returns-2
 unfolding situation fileAt doneBy pick

@@ -52,7 +52,7 @@ search-records-requires c κs =
     let k = c .before in
     let p = start (row-at k) .pre in
     let n = has-named (known k) (rw (p .1)) (rw (p .1)) in
-    (of-records (known k) (rw (p .1)), p .1, n .0, n .1, p .2)
+    (p .1, record { file = of-records (known k) (rw (p .1)); first = n .first; last = n .last; made = p .2 })
 
 same-length : tie.Need-same-length
 same-length c = search needs

@@ -51,7 +51,13 @@ update-record-requires : tie.Need-update-record-requires
 update-record-requires c κs =
     let p = start (row-at c) .pre in
     let has = of-records (known c) (rw (p .1)) in
-    (has .narrow, has .least, has .counted, omega (arith, has .most), λ z. has-named (known c) (rw (p .1)) (rw (p .1) z))
+    record {
+      row = has .row;
+      least = has .least;
+      counted = has .counted;
+      most = omega (arith, has .most);
+      named = λ z. has-named (known c) (rw (p .1)) (rw (p .1) z);
+    }
 
 returns-2 : tie.Need-returns-2
 unfolding situation fileAt doneBy pick

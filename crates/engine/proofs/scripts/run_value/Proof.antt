@@ -40,13 +40,14 @@ slice-aggregate-run c = search needs
 run-requires : tie.Need-run-requires
 run-requires c κs =
     let at-mark = marked (c .before .before .before) in
-    let s = start at-mark in (
-      s .pre .0,
-      s .pre .1,
-      s .pre .2 .scriptShort,
-      begins (cardOf s) (at-mark .mark .ensures) (s .pre .2 .starts),
-      search needs,
-    )
+    let s = start at-mark in
+    record {
+      ahead = s .pre .0;
+      inside = s .pre .1;
+      short = s .pre .2 .scriptShort;
+      starts = begins (cardOf s) (at-mark .mark .ensures) (s .pre .2 .starts);
+      room = search needs;
+    }
 
 add-gathered : tie.Need-add-gathered
 add-gathered c = search needs

@@ -14,7 +14,7 @@ use Rattle.octets.proofs.Writes.{part-length}
 use Rattle.card.specs.Row.{lent}
 use Rattle.session.specs.Session.{mostWaiting}
 use Rattle.command.specs.declared.Outcome.the-variants.{Well}
-use Rattle.command.specs.Outcomes.{goesOn}
+use Rattle.command.specs.Outcomes.{normal, goesOn}
 use Rattle.step.specs.Steps.{started}
 use Rattle.step.proofs.Keeps.{starts-small}
 use Rattle.expanded.proofs.Going.{capdu-lies, bad-lies, Going, begins, ends, breaks, stops, goes}
@@ -34,7 +34,7 @@ abbrev μ-loop : tie.MeasureT-loop
 μ-loop script definite at end application domain out₀ table₀ files₀ journal₀ g₀ made₀ place₀ out table files journal g made place = end - place
 
 start-requires : tie.Need-start-requires Inv-loop μ-loop
-start-requires c κs = omega (arith, starts-small _ _ (c .before .before .before .before .before .pre .3))
+start-requires c κs = omega (arith, starts-small _ _ (c .before .before .before .before .before .pre .starts))
 
 loop-holds : tie.Need-loop-holds Inv-loop μ-loop
 unfolding started
@@ -46,7 +46,7 @@ loop-holds c =
       refl,
       refl,
       refl,
-      begins (p .0) (p .1) (p .3) (λ i. record { session = c .start .ensures i; outcome = Well 0x9000; count = 0 }),
+      begins (p .ahead) (p .inside) (p .starts) (λ i. record { session = c .start .ensures i; outcome = Well normal; count = 0 }),
     )
 
 -- the points of the walk, each from the one before: where it starts, where the loop stands, where an item was read, where its C-APDU
@@ -71,7 +71,7 @@ ran c =
     at-files .before .before .before .before .before .before
 
 next-item-requires : tie.Need-next-item-requires Inv-loop μ-loop
-next-item-requires c κs = (c .loop .inv .5 .inside, started-at c .pre .1)
+next-item-requires c κs = (c .loop .inv .5 .inside, started-at c .pre .inside)
 
 enum-known-from : tie.Need-enum-known-from Inv-loop μ-loop
 enum-known-from c = search needs
@@ -81,7 +81,7 @@ capdu-requires c κs =
     let at-from = c .before in
     let at-item = at-from .before .before in
     let s = started-at (looped at-item) in
-    omega (arith, capdu-lies (at-item .next-item .ensures .1) (at-from .from .given .1) .1, s .pre .1)
+    omega (arith, capdu-lies (at-item .next-item .ensures .1) (at-from .from .given .1) .1, s .pre .inside)
 
 slice-aggregate-step-capdu : tie.Need-slice-aggregate-step-capdu Inv-loop μ-loop
 slice-aggregate-step-capdu c = sym (looped (c .before .before .before .before .before .before) .loop .inv .4)
@@ -97,12 +97,12 @@ step-capdu-requires c κs =
     let k = at-from .from .given in
     let h = capdu-lies (at-item .next-item .ensures .1) (k .1) in
     record {
-      size = omega (arith, ap length (at-capdu .capdu .ensures), part-length (s .args .script .now) (k .0 .0) (k .0 .1 .0) (omega (arith, h .1, s .pre .1)), h .2);
+      size = omega (arith, ap length (at-capdu .capdu .ensures), part-length (s .args .script .now) (k .0 .0) (k .0 .1 .0) (omega (arith, h .1, s .pre .inside)), h .2);
       sound = g .holds .sound;
       good = g .holds .good;
-      few = omega (arith, g .counted, g .inside, s .pre .1, s .pre .2);
+      few = omega (arith, g .counted, g .inside, s .pre .inside, s .pre .short);
       kept = g .kept;
-      room = l .inv .0 ∙ s .pre .4;
+      room = l .inv .0 ∙ s .pre .room;
       made = l .inv .4;
     }
 
@@ -138,14 +138,14 @@ returns c =
     let d = stops (looped at-item .loop .inv .5) (i .0) (i .1) (done .result) _ _ (done .ensures .1) (at-from .from .given .1)
     _ (at-capdu .capdu .ensures) (done .ensures .0)
     (sym (ap goesOn (at-word .word-of .ensures)) ∙ told-false (at-goes-on .goes-on .ensures) (c .if1 .taken)) in
-    (d .0, d .1, omega (arith, d .2, s .pre .1, s .pre .2))
+    (d .0, d .1, omega (arith, d .2, s .pre .inside, s .pre .short))
 
 add-place : tie.Need-add-place Inv-loop μ-loop
 add-place c =
     let at-item = read (ran (c .before)) in
     let at-from = lying (ran (c .before)) .before .before in
     let s = started-at (looped at-item) in
-    omega (arith, capdu-lies (at-item .next-item .ensures .1) (at-from .from .given .1) .1, s .pre .1, s .pre .2)
+    omega (arith, capdu-lies (at-item .next-item .ensures .1) (at-from .from .given .1) .1, s .pre .inside, s .pre .short)
 
 loop-less : tie.Need-loop-less Inv-loop μ-loop
 loop-less c =
@@ -188,7 +188,12 @@ step-bad-requires c κs =
     let s = started-at (looped at-item) in
     let l = looped at-item .loop in
     let g = l .inv .5 in
-    (bad-lies (at-item .next-item .ensures .1) (at-code .code .given .1) .1, omega (arith, g .counted, g .inside, s .pre .1, s .pre .2), g .kept, l .inv .0 ∙ s .pre .4)
+    record {
+      byte = bad-lies (at-item .next-item .ensures .1) (at-code .code .given .1) .1;
+      few = omega (arith, g .counted, g .inside, s .pre .inside, s .pre .short);
+      kept = g .kept;
+      room = l .inv .0 ∙ s .pre .room;
+    }
 
 same-length-5 : tie.Need-same-length-5 Inv-loop μ-loop
 same-length-5 c = omega arith
@@ -212,7 +217,7 @@ returns-2 c =
     let i = at-item .next-item .ensures in
     let done = at-bad .step-bad in
     let d = breaks (l .inv .5) (i .0) (i .1) (done .result) _ _ (done .ensures .1) (at-code .code .given .1) (done .ensures .0 (lent (l .table) (l .files) (l .journal))) in
-    (d .0, d .1, omega (arith, d .2, s .pre .1, s .pre .2))
+    (d .0, d .1, omega (arith, d .2, s .pre .inside, s .pre .short))
 
 enum-told : tie.Need-enum-told Inv-loop μ-loop
 enum-told c = search needs
@@ -235,7 +240,7 @@ returns-3 c =
     let s = started-at (looped at-item) in
     let i = at-item .next-item .ensures in
     let d = ends (looped at-item .loop .inv .5) (i .0) (i .1) (c .enum-told .given .1) in
-    (d .0, d .1, omega (arith, d .2, s .pre .1, s .pre .2))
+    (d .0, d .1, omega (arith, d .2, s .pre .inside, s .pre .short))
 
 pub run-spec : {M : Type 1} → statement M
 run-spec =

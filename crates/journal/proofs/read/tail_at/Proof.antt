@@ -29,7 +29,7 @@ tail-of-requires c κs = search needs
 
 returns : tie.Need-returns
 unfolding tailAt tailBytes
-returns c = (c .tail-of .ensures .0 ∙ rw add-sub-cancel-left, c .tail-of .ensures .1, c .tail-of .ensures .2, c .tail-of .ensures .3)
+returns c = (c .tail-of .ensures .0 ∙ rw add-sub-cancel-left, c .tail-of .ensures .1)
 
 pub tail-at-spec : {M : Type 1} → statement M
 tail-at-spec =

@@ -20,9 +20,7 @@ returns : tie.Need-returns
 unfolding tailIn
 returns c = (
   λ i. record { kind = (c .before .before .wide .ensures .0) i; place = (c .before .num-at .ensures .0) i; size = (c .num-at2 .ensures .0) i },
-  c .before .before .wide .ensures .1,
-  c .before .num-at .ensures .1,
-  c .num-at2 .ensures .1,
+  record { kind = c .before .before .wide .ensures .1; place = c .before .num-at .ensures .1; size = c .num-at2 .ensures .1 },
 )
 
 pub tail-of-spec : {M : Type 1} → statement M

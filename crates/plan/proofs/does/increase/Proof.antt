@@ -16,7 +16,7 @@ use Rattle.plan.specs.Plans as plans
 use Rattle.plan.specs.declared.Change.the-variants.{SumRecord}
 use Rattle.plan.specs.Promised.{writesOf, Fits, newestOf}
 use Rattle.plan.proofs.Inside.{none-fits, newest-fits}
-use Rattle.plan.proofs.Sums.{Raised, sum-fails, sum-done, new-bytes, new-count, new-writes}
+use Rattle.plan.proofs.Sums.{Raised, sum-fails, sum-done, new-bytes, new-size, new-writes}
 use borrow.Author.Needs.{needs}
 use Rattle.plan.proofs.does.increase.Statement.{statement}
 use Rattle.plan.proofs.does.increase.Tie as tie
@@ -58,7 +58,7 @@ module _ (c : tie.After-record-offset) where
       record {
         at = c .record-offset .ensures .0;
         inside = c .record-offset .ensures .1;
-        lies = start .pre .0 .inside;
+        lies = start .pre .file .inside;
         row = row;
         entry = entry;
         content = content;
@@ -96,7 +96,7 @@ produced-requires c κs =
     let at-copy-arg = c .before .before .before .before .before .before in
     let at-add-arg = at-copy-arg .before .before .before .before .before .before in
     let at-start = at-add-arg .before .before .before .before .before .before in
-    let p = at-start .pre in (omega (arith, p .1, p .2), omega arith)
+    let p = at-start .pre in (omega (arith, p .short, p .fits), omega arith)
 
 same-length-2 : tie.Need-same-length-2
 same-length-2 c = search needs
@@ -118,12 +118,12 @@ returns-2 c =
       λ f row entry content.
           let h = raised k f row entry content in
           let out = bytesOf (f .row .«record_length») (sum (f .row) (f .content) (a .«data» .now)) ++ a .«data» .now in
-          let e = new-bytes h (a .«data» .now) (a .made .now) (p .3) (omega (arith, p .1, p .2)) (sum-made .1) (at-copy .copy .ensures) in
+          let e = new-bytes h (a .«data» .now) (a .made .now) (p .made) (omega (arith, p .short, p .fits)) (sum-made .1) (at-copy .copy .ensures) in
           sum-done h (a .«data» .now) (sum-made .0) (at-else1 .if1 .left)
-          (c .produced .ensures .0 (a .«data» .now) _ out (a .made .now) e (new-count h (a .«data» .now))
+          (c .produced .ensures .0 (a .«data» .now) _ out (a .made .now) e (new-size h (a .«data» .now))
           ∙ (λ i. produced (a .format) (at-at-record .at-record .ensures i) normal out (writesOf (SumRecord (record-made i)) (a .«data» .now) (e i)))
           ∙ (λ i. produced (a .format) (atRecord (a .s) 1) normal out (new-writes h (a .«data» .now) (a .made .now) i))),
-      λ t h. rw (c .produced .ensures .1, record-made) (newest-fits t (length (a .files .now)) (a .s .file) (a .r) (p .0) h, omega (arith, p .1)),
+      λ t h. rw (c .produced .ensures .1, record-made) (newest-fits t (length (a .files .now)) (a .s .file) (a .r) (p .file) h, omega (arith, p .short)),
     )
 
 pub increase-spec : {M : Type 1} → statement M

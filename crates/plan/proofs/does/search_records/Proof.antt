@@ -77,7 +77,7 @@ produced-requires : tie.Need-produced-requires
 produced-requires c κs =
     let k = c .before .before .before .before .before .before in
     let l : length (found k) ≤ length (start k .args .made .now) = write-short _ _ (sym (ap length (k .search .ensures .0)) ∙ k .search .kept .1 .1 .1 .1 .1 .0) in
-    (omega (arith, k .search .ensures .1, start k .pre .4), omega arith)
+    (omega (arith, k .search .ensures .1, start k .pre .1 .made), omega arith)
 
 same-length-2 : tie.Need-same-length-2
 same-length-2 c = search needs

@@ -46,8 +46,7 @@ record-of-requires c κs = search needs
 record-offset-requires : tie.Need-record-offset-requires
 record-offset-requires c κs =
     let p = c .before .before .before .before .pre in
-    let h = p .4 (ne-eqb _ _ (c .before .before .if1 .left)) in
-    (p .1, rw (c .record-of .ensures) (h .0), rw (c .record-of .ensures) (h .1), p .0)
+    rw (c .record-of .ensures) (p .named (ne-eqb _ _ (c .before .before .if1 .left)))
 
 number-after-requires : tie.Need-number-after-requires
 number-after-requires c κs = search needs
@@ -56,8 +55,11 @@ at-record-requires-2 : tie.Need-at-record-requires-2
 at-record-requires-2 c κs =
     let a = c .before .before .before .before .before .before .args in
     let n : a .s .«record_number» < 256 = search needs in
-    let h = c .before .before .before .before .before .before .pre .4 (ne-eqb _ _ (c .before .before .before .before .if1 .left)) in
-    rw (c .number-after .ensures) (after-small (a .c .p2) (a .s .«record_number») (c .before .before .record-of .result) n (omega (arith, c .before .before .record-of .ensures, h .1, c .before .before .before .before .before .before .pre .3)))
+    let at-record-of = c .before .before in
+    let at-else1 = at-record-of .before .before in
+    let s = at-else1 .before .before in
+    let h = s .pre .named (ne-eqb _ _ (at-else1 .if1 .left)) in
+    rw (c .number-after .ensures) (after-small (a .c .p2) (a .s .«record_number») (at-record-of .record-of .result) n (omega (arith, at-record-of .record-of .ensures, h .last, s .pre .most)))
 
 done-requires-2 : tie.Need-done-requires-2
 done-requires-2 c κs = search needs

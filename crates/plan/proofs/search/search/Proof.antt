@@ -1,4 +1,4 @@
--- `command::search::search` meets its contract. The loop's invariant: what is noted, with what is left to search, is what the whole search finds. Assumes nothing.
+-- `plan::search::search` meets its contract. The loop's invariant: what is noted, with what is left to search, is what the whole search finds. Assumes nothing.
 use borrow.Author.Needs.{needs}
 use native.Mathlib.Omega.{arith}
 use Rattle.octets.specs.Bytes.{part}
@@ -16,10 +16,10 @@ to-search-requires : tie.Need-to-search-requires Inv-loop μ-loop
 to-search-requires c κs = search needs
 
 loop-holds : tie.Need-loop-holds Inv-loop μ-loop
-loop-holds c = let s = c .before .before .before .before in begins (s .args .r) _ (s .args .p2) _ (s .args .from) _ (s .args .out .now) (s .pre .1) (s .pre .2) (omega (arith, s .pre .0 .most)) (c .to-search .ensures)
+loop-holds c = let s = c .before .before .before .before in begins (s .args .r) _ (s .args .p2) _ (s .args .from) _ (s .args .out .now) (s .pre .first) (s .pre .last) (omega (arith, s .pre .file .most)) (c .to-search .ensures)
 
 record-contains-requires : tie.Need-record-contains-requires Inv-loop μ-loop
-record-contains-requires c κs = let h = c .before .loop .inv .inside (c .loop-test .taken) in (c .before .before .before .before .before .before .pre .0, h .0, h .1)
+record-contains-requires c κs = let h = c .before .loop .inv .inside (c .loop-test .taken) in (c .before .before .before .before .before .before .pre .file, h .0, h .1)
 
 note-requires : tie.Need-note-requires Inv-loop μ-loop
 note-requires c κs = let h = c .before .before .before .loop .inv .inside (c .before .before .loop-test .taken) in omega arith

@@ -8,7 +8,7 @@ use Rattle.session.proofs.fcp.of_records.Statement.{statement}
 use Rattle.session.proofs.fcp.of_records.Tie as tie
 
 record-count-requires : tie.Need-record-count-requires
-record-count-requires c κs = c .pre .2 .records (c .pre .0) .0
+record-count-requires c κs = c .pre .1 .records (c .pre .0) .0
 
 record-descriptor-requires : tie.Need-record-descriptor-requires
 record-descriptor-requires c κs = search needs
@@ -22,7 +22,7 @@ cast-t8 c = search needs
 cast-t9 : tie.Need-cast-t9
 cast-t9 c =
     let p = c .before .before .before .before .pre in
-    let n = p .2 .records (p .0) .1 in
+    let n = p .1 .records (p .0) .1 in
     omega arith
 
 cast-t12 : tie.Need-cast-t12
@@ -48,7 +48,7 @@ returns c =
     let at-record-count = at-record-descriptor .before in
     let at-start = at-record-count .before in
     let p = at-start .pre in
-    rw (at-record-descriptor .record-descriptor .ensures, at-record-count .record-count .ensures .0) (records-fcp _ (p .0) (p .1))
+    rw (at-record-descriptor .record-descriptor .ensures, at-record-count .record-count .ensures .0) (records-fcp _ (p .0) (p .1 .most))
 
 pub of-records-spec : {M : Type 1} → statement M
 of-records-spec =

@@ -59,7 +59,7 @@ of-records-requires : tie.Need-of-records-requires
 of-records-requires c κs =
     let s = c .before .before .before .before .before .before in
     let k = beyond (s .args .r) (s .pre .1) (sym (c .before .before .before .before .is-directory .ensures) ∙ c .before .before .before .if1 .left) (c .before .if2 .left) in
-    (k, s .pre .1 .most, s .pre .1, s .pre .2)
+    (k, s .pre .1, s .pre .2)
 
 slice-aggregate-copy-3 : tie.Need-slice-aggregate-copy-3
 slice-aggregate-copy-3 c = search needs

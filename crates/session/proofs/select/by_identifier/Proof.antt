@@ -50,7 +50,7 @@ above-requires c κs =
     let to-start = c .before .before .before .before .before .before in
     let at-start = to-start .before .before .before in
     let p = at-start .pre in
-    rw (c .row-at .ensures .0) (p .2 _ (p .1))
+    rw (c .row-at .ensures .0) (p .parentsInside _ (p .directoryInside))
 
 returns-4 : tie.Need-returns-4
 unfolding byIdentifier child

@@ -20,12 +20,11 @@ start c =
     at-slices .before .before .before .before
 
 perform-requires : tie.Need-perform-requires
-unfolding planOf
-perform-requires c κs = let p = start (c .before .before .before) .pre in (p .0, p .1, p .3, p .4)
+perform-requires c κs = start (c .before .before .before) .pre .0
 
 -- what was made is as long as the decision says
 made-long : (c : tie.After-struct-known) → length (take (start c .args .d .made) (start c .args .made .now)) ≡ start c .args .d .made
-made-long c = length-take-le (start c .args .d .made) (start c .args .made .now) (omega (arith, cast-n c, start c .pre .1))
+made-long c = length-take-le (start c .args .d .made) (start c .args .made .now) (omega (arith, cast-n c, start c .pre .0 .made))
 
 -- where the decision is known, from where the change was performed and the arguments of the copy are ready
 abbrev known : tie.After-copy-arg2 → tie.After-struct-known
@@ -39,7 +38,7 @@ slice-aggregate-copy : tie.Need-slice-aggregate-copy
 slice-aggregate-copy c = sym (made-long (known c))
 
 copy-requires : tie.Need-copy-requires
-copy-requires c κs = let k = known c in rw (made-long k) (omega (arith, cast-n k, start k .pre .2))
+copy-requires c κs = let k = known c in rw (made-long k) (omega (arith, cast-n k, start k .pre .1))
 
 same-length : tie.Need-same-length
 same-length c = search needs

@@ -29,10 +29,10 @@ whole s = lent (s .args .table .now) (s .args .files .now) (s .args .journal .no
 -- an arm's change: it fits, the journal has room for it, and its writes are those asked
 module _ (s : tie.Start) {other : Change} (same : s .args .change ≡ other) where
   fits : Fits (length (s .args .table .now)) (length (s .args .files .now)) (length (s .args .«data» .now)) other
-  fits = known-fits same (s .args .«data» .now) (s .args .made .now) (length (s .args .table .now)) (length (s .args .files .now)) (s .pre .0)
+  fits = known-fits same (s .args .«data» .now) (s .args .made .now) (length (s .args .table .now)) (length (s .args .files .now)) (s .pre .fits)
 
   left : HasRoom (s .args .journal .now) (changes.cost (writesOf other (s .args .«data» .now) (s .args .made .now)))
-  left = known-left same (s .args .«data» .now) (s .args .made .now) (s .args .journal .now) (s .pre .3)
+  left = known-left same (s .args .«data» .now) (s .args .made .now) (s .args .journal .now) (s .pre .left)
 
   steps : {d : Card} → d ≡ changes.perform (writesOf other (s .args .«data» .now) (s .args .made .now)) (whole s) → d ≡ changes.perform (writesOf (s .args .change) (s .args .«data» .now) (s .args .made .now)) (whole s)
   steps = known-steps same (s .args .«data» .now) (s .args .made .now) (whole s)
@@ -40,14 +40,14 @@ module _ (s : tie.Start) {other : Change} (same : s .args .change ≡ other) whe
 -- a sum stands at the start of what was made
 sum-long : (s : tie.Start) (r : NewRecord) → s .args .change ≡ SumRecord r → length (take (r .«record_length») (s .args .made .now)) ≡ r .«record_length»
 unfolding Fits
-sum-long s r same = length-take-le (r .«record_length») (s .args .made .now) (omega (arith, fits s same .1, s .pre .1))
+sum-long s r same = length-take-le (r .«record_length») (s .args .made .now) (omega (arith, fits s same .1, s .pre .made))
 
 -- what the card's lent memories are known to be in front of the arms
 abbrev start : tie.After-slice-known3 → tie.Start
 start k = k .before .before .before .before .before
 
 short : (s : tie.Start) → length (s .args .journal .now) ≤ 65535
-short s = omega (arith, s .pre .2)
+short s = omega (arith, s .pre .short)
 
 enum-told : tie.Need-enum-told
 enum-told c = search needs

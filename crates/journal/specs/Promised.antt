@@ -1,0 +1,23 @@
+-- What promises speak of besides the rules: the bounds of a tail that was read, and what a write asks.
+use Prim.Native.Nat.{ℕ, _+_, _≤_, _<_}
+use mathlib.Core.Path.{_≡_}
+use mathlib.Core.List.{List}
+use lib.ListN.{length}
+use Rattle.journal.specs.declared.Head.{Head}
+use Rattle.journal.specs.declared.Tail.{Tail}
+use Rattle.journal.specs.Entries.{headSize, headOf, entryBytes}
+
+-- the kind is a byte, place and size are 16-bit numbers
+pub record TailFits (t : Tail) : Type 0 where
+  pub kind : t .kind < 256
+  pub place : t .place < 65536
+  pub size : t .size < 65536
+
+-- a write of n bytes at an offset in a part of a memory asks that the part lies in the memory and the bytes in the part, that the head
+-- is the journal's, and that the journal, whose used bytes are a 16-bit number, has room for the entry
+pub record WriteAsks (memory journal : List ℕ) (h : Head) (start size offset n : ℕ) : Type 0 where
+  pub inside : start + size ≤ length memory
+  pub within : offset + n ≤ size
+  pub head : h ≡ headOf journal
+  pub short : length journal ≤ 65535
+  pub left : headSize + h .used + entryBytes n ≤ length journal
