@@ -1,4 +1,6 @@
--- What reading a case comes to, and what its shape gives: how long its parts are, and that they are hex digits. Assumes nothing.
+-- What reading a case comes to, and what its shape gives: how long its parts are, and that they are hex digits.
+-- A case is read where every value behind the label is; each law says of one step of the definition what a test that was made leads to, so
+-- that the proofs of the readers cite them in the order of the code. Assumes nothing.
 use mathlib.Core.Path.{_≡_, refl, sym, ap, _∙_}
 use mathlib.Core.Bool.{Bool, true, _&&_}
 use mathlib.Core.List.{List}

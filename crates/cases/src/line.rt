@@ -23,7 +23,7 @@ fn put_labelled(
     response: &[u8],
     journal: &[u8],
 ) -> usize
-    requires { ⌜ (spec.mostInLine ≤ length (now out)) × (length (now label) ≤ 64) × (length (now response) ≤ 1024) × (length (now journal) ≤ 2048) ⌝ }
+    requires { ⌜ spec.PutLabelledAsks (now out) (now label) (now response) (now journal) ⌝ }
     ensures { λ r. ⌜ (now (out .exit) ≡ overwrite (now (out .entry)) 0 (spec.labelled (now (label .entry)) refusal executed (now (response .entry)) (now (journal .entry)))) × (r ≡ length (spec.labelled (now (label .entry)) refusal executed (now (response .entry)) (now (journal .entry)))) × (r ≤ spec.mostInLine) ⌝ }
 {
     octets::copy(out, 0, label);

@@ -1,4 +1,6 @@
 -- Demand 1: the code meets its contracts, what a refused call leaves, and the numbers of the three calls, of which 5 is for runs.
+-- The code's contracts are proved in `engine`. A number is the first of a list whose condition holds: where one is given, the call is its
+-- refusal by definition (`unlessRefused`), and which one it is follows from the laws of that list (`RunNumbers` of `engine`), test by test.
 -- Assumes nothing.
 use mathlib.Core.Path.{_≡_, refl, sym, subst, _∙_}
 use mathlib.Core.Bool.{Bool, true, false, not, false≢true}

@@ -1,5 +1,8 @@
 -- The writes of a command on its file are of a sound form where they go, and go into bytes of that file: at an offset, at a record, at the
--- oldest place, and at the state; and its records lie in the file. Assumes nothing.
+-- oldest place, and at the state; and its records lie in the file.
+-- An entry of a sound table is sound by itself: its file lies in the file memory, and a record file has whole records. So an offset with
+-- its bytes, or a record, inside the file is inside the file memory, and bytes 9 and 10 of the entry are inside the table; what is written
+-- there is a value that the table's soundness allows. Assumes nothing.
 use mathlib.Core.Path.{_≡_}
 use mathlib.Core.Bool.{true}
 use mathlib.Core.List.{List, [], _∷_}

@@ -1,4 +1,6 @@
--- `cases::line::put_line` meets its contract: the line of the case that was read, or that there is none. Assumes nothing.
+-- `cases::line::put_line` meets its contract: the line of the case that was read, or that there is none.
+-- What `case_of` gives is what the definition reads (`printed-bad`, `printed-case`), so what is put down is what is printed of it; that label
+-- and digits may be taken as parts of the line is what `case_of` promises of a case. Assumes nothing.
 use mathlib.Core.Path.{sym, ap, _∙_}
 use native.Mathlib.Omega.{arith}
 use lib.ListN.{length}
