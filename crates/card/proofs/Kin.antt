@@ -17,7 +17,8 @@ use Rattle.card.specs.declared.Row.{Row}
 use Rattle.card.specs.declared.tree.Found.{Found}
 use Rattle.card.specs.declared.tree.Found.the-variants.{At, Nothing}
 use Rattle.card.specs.Row.{entries, rowOf}
-use Rattle.card.specs.Tree.{firstFrom, isChildOf, childWith, isRoot, ParentsSmaller, rootIn, rootOf}
+use Rattle.card.specs.Tree.{firstFrom, isChildOf, childWith, isRoot, rootIn, rootOf}
+use Rattle.card.specs.Promised.{ParentsSmaller}
 
 -- a search: what is left from e on is the whole of it
 module _ {f : Found} (n e : ℕ) (test : ℕ → Bool) (left : f ≡ firstFrom (n - e) e test) where

@@ -20,7 +20,7 @@ use Rattle.octets.proofs.Picks.{pick-true, pick-false, and-left, and-right, or-
 use Rattle.card.specs.declared.Row.{Row}
 use Rattle.card.specs.Row.{entries, rowOf, isMF, isADF, isTransparent, isCyclic, isDirectory, isFile, hasRecords, canBeChild}
 use Rattle.card.specs.Sound.{recordCount, rootSound, placeSound, nameSound, directorySound, newestSound, stateSound, recordsSound, fileSound, ownSound, entrySound, namedApart, pairSound, entriesSound, pairsSound, soundBy, lengthsSound, soundTable}
-use Rattle.card.specs.Tree.{ParentsSmaller}
+use Rattle.card.specs.Promised.{ParentsSmaller}
 
 -- a test holds if the whole would fail without it
 module _ {whole : Bool} (e : whole ≡ true) where

@@ -55,21 +55,6 @@ row bs =
 unfoldable pub rowOf : List ℕ → ℕ → Row
 rowOf t e = row (entry t e)
 
--- the fields are bytes and 16-bit numbers
-pub record RowFits (r : Row) : Type 0 where
-  pub identifier : r .identifier < 65536
-  pub parent : r .parent < 256
-  pub kind : r .kind < 256
-  pub start : r .start < 65536
-  pub size : r .size < 65536
-  pub «record_length» : r .«record_length» < 256
-  pub newest : r .newest < 256
-  pub state : r .state < 256
-  pub eleven : r .eleven < 256
-  pub never : r .never < 256
-  pub thirteen : r .thirteen < 65536
-  pub fifteen : r .fifteen < 256
-
 -- the bytes of an entry that a command writes, "place (from 0) of the newest record" and the state, and their places in the table
 abbrev pub newestByte : ℕ
 newestByte = 9

@@ -40,14 +40,6 @@ childDF t directory identifier = childWith t directory (λ r. isDF r && eqb (r .
 abbrev pub isRoot : Row → Bool
 isRoot r = isMF r || isADF r
 
--- below an application's root a parent's number is smaller than its child's
-abbrev pub ParentsSmaller : List ℕ → Type 0
-ParentsSmaller t = (e : ℕ) → e < entries t → isRoot (rowOf t e) ≡ false → rowOf t e .parent < e
-
--- every parent is an entry of the table
-abbrev pub ParentsInside : List ℕ → Type 0
-ParentsInside t = (e : ℕ) → e < entries t → rowOf t e .parent < entries t
-
 -- the walk up, of at most n steps: to the MF or the ADF that an entry belongs to
 unfoldable pub rootIn : ℕ → List ℕ → ℕ → ℕ
 rootIn zero t e = e

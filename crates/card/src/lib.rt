@@ -14,7 +14,8 @@ pub mod tree;
 ghost use mathlib.Core.Path.{_≡_};
 ghost use lib.ListN.{length};
 ghost use Rattle.octets.specs.Bytes.{InWord};
-ghost use Rattle.card.specs.Row.{entrySize, entries, HasEntry, row, rowOf, placeOfNewest, placeOfState, RowFits};
+ghost use Rattle.card.specs.Row.{entrySize, entries, HasEntry, row, rowOf, placeOfNewest, placeOfState};
+ghost use Rattle.card.specs.Promised.{RowFits};
 
 // The number of bytes of an entry.
 pub const ENTRY_SIZE: usize = 16;

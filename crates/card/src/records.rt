@@ -2,10 +2,9 @@
 use crate::Row;
 ghost use mathlib.Core.Path.{_≡_};
 ghost use Prim.Native.Nat.{_+_, _*_, _≤_, _<_};
-ghost use Rattle.card.specs.Row.{RowFits};
+ghost use Rattle.card.specs.Promised.{RowFits, RecordOffsetAsks};
 ghost use Rattle.card.specs.Sound.{recordCount};
 ghost use Rattle.card.specs.Records.{cyclicPlace, recordOffset, oldestPlace};
-ghost use Rattle.card.specs.Promised.{RecordOffsetAsks};
 
 // Returns the place of record r among m records, with the newest at place k.
 fn cyclic_place(m: usize, k: usize, r: usize) -> usize

@@ -6,7 +6,8 @@ use crate::DEACTIVATED;
 use crate::Row;
 use crate::TRANSPARENT;
 ghost use mathlib.Core.Path.{_≡_};
-ghost use Rattle.card.specs.Row.{RowFits, isDirectory, isFile, canBeChild};
+ghost use Rattle.card.specs.Row.{isDirectory, isFile, canBeChild};
+ghost use Rattle.card.specs.Promised.{RowFits};
 ghost use Rattle.card.specs.Sound.{rootSound, placeSound, nameSound, directorySound, newestSound, stateSound, recordsSound, fileSound, zerosSound, ownSound, namedApart, lieApart, pairSound};
 
 // "Record files have record length 1 to 255 and 1 to 254 whole records"

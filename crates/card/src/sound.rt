@@ -11,7 +11,8 @@ use crate::rules::root_sound;
 ghost use mathlib.Core.Path.{_≡_};
 ghost use Prim.Native.Nat.{_≤_, _<_};
 ghost use Rattle.octets.specs.Choice.{allBelow};
-ghost use Rattle.card.specs.Row.{entries, rowOf, RowFits};
+ghost use Rattle.card.specs.Row.{entries, rowOf};
+ghost use Rattle.card.specs.Promised.{RowFits};
 ghost use Rattle.card.specs.Sound.{entrySound, pairSound, entriesSound, pairsSound, soundTable};
 
 // "The table has 1 to 64 entries"; "File memory has 1 to 32,768 bytes."

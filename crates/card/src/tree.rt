@@ -10,7 +10,8 @@ ghost use mathlib.Core.Bool.{not, _&&_, _||_};
 ghost use Prim.Native.Nat.{ℕ, _≤_, _<_};
 ghost use lib.Dec.{eqb};
 ghost use Rattle.card.specs.Row.{entries, isDF};
-ghost use Rattle.card.specs.Tree.{childWith, ParentsSmaller, rootIn};
+ghost use Rattle.card.specs.Tree.{childWith, rootIn};
+ghost use Rattle.card.specs.Promised.{ParentsSmaller};
 
 // What a search for an entry finds: its number, or nothing.
 pub enum Found {

@@ -8,14 +8,15 @@ use lib.ListN.{length}
 use borrow.Author.Tests.{lt-ltb, le-ltb}
 use Rattle.octets.specs.Bytes.{AllBytes}
 use Rattle.card.specs.Row.{Card}
-use Rattle.journal.specs.Sound.{Starts}
+use Rattle.journal.specs.Promised.{Starts}
 use Rattle.journal.specs.Changes.{takenBack}
 use Rattle.command.specs.declared.Reading.{Reading}
 use Rattle.command.specs.declared.Step.{Step}
 use Rattle.command.specs.Outcomes.{wordOf, goesOn}
 use Rattle.step.specs.Steps.{State, stateOf, started, stepped}
 use Rattle.step.proofs.Keeps.{Holds, starts-holds}
-use Rattle.compact.specs.Compact.{readAt, placeAfter, ReadingFits, stepRead, stepAt, runFrom, run}
+use Rattle.compact.specs.Compact.{readAt, placeAfter, stepRead, stepAt, runFrom, run}
+use Rattle.compact.specs.Promised.{ReadingFits}
 use Rattle.compact.proofs.Runs.{step-holds}
 
 -- the place, the number of commands, what holds of session and card, and what is left to run, with a count that is large enough

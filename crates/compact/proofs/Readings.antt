@@ -8,7 +8,8 @@ use borrow.Author.Tests.{leb-true}
 use Rattle.octets.specs.Bytes.{byte, AllBytes}
 use Rattle.octets.proofs.Picks.{le-yes, le-no, on-pick}
 use Rattle.command.specs.declared.Reading.{Reading}
-use Rattle.compact.specs.Compact.{dataBehind, broken, wholeAt, headedAt, readAt, placeAfter, ReadingFits}
+use Rattle.compact.specs.Compact.{dataBehind, broken, wholeAt, headedAt, readAt, placeAfter}
+use Rattle.compact.specs.Promised.{ReadingFits}
 
 module _ (script : List ℕ) (at : ℕ) {r : Reading} where
   pub no-header : length script < at + 5 → r ≡ broken script → r ≡ readAt script at

@@ -82,12 +82,6 @@ readAt script at = pick (leb (at + headerSize) (length script)) (headedAt script
 unfoldable pub placeAfter : Reading → ℕ
 placeAfter r = r .from + r .size
 
--- what a reading at a place of a script of bytes promises: its data lie in the script, the next place is further on, and its numbers are bytes
-pub record ReadingFits (script : List ℕ) (at : ℕ) (r : Reading) : Type 0 where
-  pub inside : placeAfter r ≤ length script
-  pub further : at < placeAfter r
-  pub bytes : OfBytes (r .command) (r .size)
-
 -- a script's state after a command with its data: from the session and on the card that the ones before have left
 abbrev pub stepWith : ℕ → Command → List ℕ → State → State
 stepWith domain c «data» st =

@@ -1,1 +1,2 @@
 pub mod Compact
+pub mod Promised

@@ -7,6 +7,7 @@ ghost use mathlib.Core.Path.{_≡_};
 ghost use Prim.Native.Nat.{_+_, _≤_, _<_};
 ghost use lib.ListN.{length};
 ghost use Rattle.compact.specs.Compact as spec;
+ghost use Rattle.compact.specs.Promised.{ReadingFits};
 
 // "Five-byte headers"
 const HEADER_SIZE: usize = 5;
@@ -80,7 +81,7 @@ fn whole_at(script: &[u8], at: usize, i: usize, size: usize) -> Reading
 // Returns the command that stands at the place `at` of a script.
 pub fn read_at(script: &[u8], at: usize) -> Reading
     requires { ⌜ at < length (now script) ⌝ }
-    ensures { λ r. ⌜ (r ≡ spec.readAt (now (script .entry)) at) × spec.ReadingFits (now (script .entry)) at r ⌝ }
+    ensures { λ r. ⌜ (r ≡ spec.readAt (now (script .entry)) at) × ReadingFits (now (script .entry)) at r ⌝ }
 {
     if script.len() - at < HEADER_SIZE {
         return broken(script);

@@ -11,7 +11,7 @@ ghost use mathlib.Core.Path.{_≡_};
 ghost use Prim.Native.Nat.{_≤_, _<_};
 ghost use lib.ListN.{length};
 ghost use Rattle.card.specs.Row.{lent};
-ghost use Rattle.journal.specs.Sound.{Starts};
+ghost use Rattle.journal.specs.Promised.{Starts};
 ghost use Rattle.step.specs.Limits.{longestScript};
 ghost use Rattle.step.specs.Steps.{stateOf};
 ghost use Rattle.step.specs.Promised.{RunCommandAsks};

@@ -18,11 +18,12 @@ use borrow.Author.Tests.{eqb-false, not-false}
 use Rattle.octets.specs.Choice.{pick}
 use Rattle.octets.proofs.Picks.{on-pick}
 use Rattle.card.specs.declared.Row.{Row}
-use Rattle.card.specs.Row.{Card, lent, RowFits, HasEntry, entries, rowOf, isCyclic, hasRecords, activated, deactivated, placeOfNewest, placeOfState}
+use Rattle.card.specs.Row.{Card, lent, HasEntry, entries, rowOf, isCyclic, hasRecords, activated, deactivated, placeOfNewest, placeOfState}
+use Rattle.card.specs.Promised.{RowFits, RecordOffsetAsks}
 use Rattle.card.specs.Sound.{ownSound}
-use Rattle.card.specs.Promised.{RecordOffsetAsks}
 use Rattle.card.proofs.Promises.{some-entries, few-entries, cyclic-records, file-inside, record-some, records-some, records-few, entry-own}
-use Rattle.journal.specs.Entries.{usedBytes, room, HasRoom}
+use Rattle.journal.specs.Entries.{usedBytes, room}
+use Rattle.journal.specs.Promised.{HasRoom}
 use Rattle.journal.proofs.Parts.{Parts, card-table, card-parts, used-inside, room-left}
 use Rattle.session.specs.declared.Standing.{Standing}
 use Rattle.session.specs.Session.{mostWaiting}

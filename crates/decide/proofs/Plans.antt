@@ -18,7 +18,7 @@ use Rattle.octets.specs.Choice.{pick}
 use Rattle.octets.proofs.Picks.{pick-true, pick-false, and-left, and-right, on-pick, either}
 use Rattle.card.specs.declared.tree.Found.the-variants as Found
 use Rattle.card.specs.Row.{Card, rowOf}
-use Rattle.journal.specs.Entries.{HasRoom}
+use Rattle.journal.specs.Promised.{HasRoom}
 use Rattle.journal.specs.Changes.{cost}
 use Rattle.session.specs.declared.Standing.{Standing}
 use Rattle.command.specs.Instructions as ins

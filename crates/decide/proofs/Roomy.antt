@@ -12,7 +12,7 @@ use Rattle.card.specs.declared.Row.{Row}
 use Rattle.card.specs.declared.tree.Found.{Found}
 use Rattle.card.specs.declared.tree.Found.the-variants.{At, Nothing}
 use Rattle.card.specs.Row.{Card}
-use Rattle.journal.specs.Entries.{HasRoom}
+use Rattle.journal.specs.Promised.{HasRoom}
 use Rattle.journal.specs.Changes.{Write, cost}
 use Rattle.journal.proofs.Parts.{Parts, used-inside, room-left}
 use Rattle.session.specs.declared.Standing.{Standing}

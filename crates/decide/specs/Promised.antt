@@ -12,14 +12,13 @@ use Rattle.card.specs.declared.tree.Found.the-variants.{At}
 use Rattle.card.specs.Row.{hasRecords, Card, lent, entries, rowOf}
 use Rattle.card.specs.Sound.{soundTable}
 use Rattle.journal.specs.Changes.{cost}
-use Rattle.journal.specs.Entries.{HasRoom}
+use Rattle.journal.specs.Promised.{HasRoom}
 use Rattle.journal.specs.Sound.{soundCard}
 use Rattle.session.specs.declared.Standing.{Standing}
 use Rattle.session.specs.Session.{mostWaiting}
 use Rattle.session.specs.Select.{find, rowFound}
-use Rattle.session.specs.Fcp.{FcpFits}
+use Rattle.session.specs.Promised.{FcpFits, StandsIn}
 use Rattle.session.specs.Good.{Good}
-use Rattle.session.specs.Promised.{StandsIn}
 use Rattle.command.specs.declared.Command.{Command}
 use Rattle.command.specs.declared.Format.{Format}
 use Rattle.command.specs.declared.checks.Check.{Check}
@@ -89,7 +88,7 @@ pub record DecideSelectAsks (t «data» : List ℕ) (s : Standing) (c : Command)
 -- room, and a sum can wait
 pub record WithRoomAsks (change : Change) (lc used room : ℕ) : Type 0 where
   pub brief : lc < 256
-  pub narrow : used < 65536
+  pub short : used < 65536
   pub inside : used ≤ room
   pub cost : CostOfAsks change
 

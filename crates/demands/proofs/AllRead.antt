@@ -11,7 +11,8 @@ use Rattle.octets.proofs.Picks.{pick-false}
 use Rattle.tlv.specs.declared.template.Template.{Template}
 use Rattle.tlv.specs.declared.template.Template.the-variants.{Definite, Indefinite, Missing}
 use Rattle.tlv.specs.declared.template.Item.the-variants.{End}
-use Rattle.tlv.specs.Templates.{templateOf, TemplateFits, itemAt, ItemFits}
+use Rattle.tlv.specs.Templates.{templateOf, itemAt}
+use Rattle.tlv.specs.Promised.{TemplateFits, ItemFits}
 use Rattle.tlv.proofs.Fits.{template-told, item-told}
 use Rattle.command.specs.declared.Reading.{Reading}
 use Rattle.compact.specs.Compact.{broken, wholeAt, readAt, placeAfter}

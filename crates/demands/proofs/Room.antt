@@ -18,7 +18,7 @@ use Rattle.card.specs.Row.{Card}
 use Rattle.tlv.specs.declared.template.Template.{Template}
 use Rattle.tlv.specs.declared.template.Template.the-variants.{Definite, Indefinite, Missing}
 use Rattle.tlv.specs.Templates.{templateOf, itemAt}
-use Rattle.journal.specs.Sound.{Starts}
+use Rattle.journal.specs.Promised.{Starts}
 use Rattle.journal.specs.Changes.{withMark, takenBack}
 use Rattle.session.specs.Session.{mostWaiting}
 use Rattle.command.specs.declared.Format.{Format}

@@ -159,7 +159,9 @@ pub record Demand2 : Type 0 where
   pub allPieces :
       (script : List ℕ) → AllBytes script → (n : ℕ) → length script ≤ n
       → piecesIn n (templateOf script) script ≡ piecesOf (templateOf script) script
+  -- any accepted run starts afresh, whatever card it finds
   pub fresh : (a : Arguments) (c : Card) → number (resultOf (running a) c) ≡ 0 → Fresh c a
+  -- a command that ends with an error word leaves table, files, journal and session
   pub errors : ErrorsChangeNothing
   pub marked : Marked
   pub cyclic : (m k : ℕ) → k < m → Cyclic m k

@@ -16,8 +16,9 @@ use Rattle.card.specs.Row.{Card, entries, rowOf}
 use Rattle.card.specs.Tree.{isRoot}
 use Rattle.tlv.specs.declared.template.Template.the-variants.{Definite, Indefinite}
 use Rattle.tlv.specs.Templates.{templateOf}
-use Rattle.journal.specs.Entries.{scriptsOnTrial, entryBytes, HasRoom}
-use Rattle.journal.specs.Sound.{mostScripts, markFits, soundCard, Starts}
+use Rattle.journal.specs.Entries.{scriptsOnTrial, entryBytes}
+use Rattle.journal.specs.Promised.{HasRoom, Starts}
+use Rattle.journal.specs.Sound.{mostScripts, markFits, soundCard}
 use Rattle.journal.specs.Changes.{withJournal, marked, withMark}
 use Rattle.journal.proofs.Parts.{card-parts, card-table, room-left}
 use Rattle.journal.proofs.Pushed.{marked-scripts}

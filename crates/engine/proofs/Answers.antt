@@ -12,7 +12,8 @@ use Rattle.journal.specs.Sound.{soundCard}
 use Rattle.journal.specs.Changes.{takenBack, confirmed}
 use Rattle.engine.specs.declared.Answer.{Answer}
 use Rattle.engine.specs.Numbers.{firstGiven, notSound, takeBackRefusals, confirmRefusals}
-use Rattle.engine.specs.Calls.{Result, gives, numbered, AnswerFits, unlessRefused, takeBack, confirm}
+use Rattle.engine.specs.Calls.{Result, gives, numbered, unlessRefused, takeBack, confirm}
+use Rattle.engine.specs.Promised.{AnswerFits}
 
 -- a call gives its number alone where one is given, and else what it does
 module _ (n : ℕ) (c : Card) (response : List ℕ) (r : Result) where

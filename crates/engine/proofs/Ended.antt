@@ -16,7 +16,7 @@ use Rattle.card.specs.Row.{Card, lent}
 use Rattle.tlv.specs.declared.template.Template.{Template}
 use Rattle.tlv.specs.declared.template.Template.the-variants.{Definite, Indefinite}
 use Rattle.tlv.specs.Templates.{templateOf}
-use Rattle.journal.specs.Sound.{Starts}
+use Rattle.journal.specs.Promised.{Starts}
 use Rattle.journal.specs.Changes.{withJournal, marked, withMark, takenBack}
 use Rattle.session.specs.Session.{mostWaiting}
 use Rattle.command.specs.declared.Format.the-variants.{Compact, Expanded}
@@ -37,7 +37,8 @@ use Rattle.expanded.specs.Expanded.{Progress}
 use Rattle.expanded.proofs.Written.{answer-few}
 use Rattle.step.specs.Limits.{longestScript}
 use Rattle.engine.specs.Numbers.{Arguments, leastResponse}
-use Rattle.engine.specs.Calls.{Result, gives, AnswerFits, accepted, runValue, runScript}
+use Rattle.engine.specs.Calls.{Result, gives, accepted, runValue, runScript}
+use Rattle.engine.specs.Promised.{AnswerFits}
 use Rattle.engine.proofs.RunNumbers.{least-response}
 
 -- the card with the journal that has the mark

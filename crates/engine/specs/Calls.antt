@@ -32,10 +32,6 @@ gives answer card response = record { answer = answer; card = card; response = r
 abbrev pub numbered : ℕ → Answer
 numbered number = record { number = number; length = 0; count = 0 }
 
--- an answer's numbers are small: they find room in one number at the C boundary
-abbrev pub AnswerFits : Answer → Type 0
-AnswerFits a = (a .number < 256) × (a .count < 65536) × (a .length < 65536)
-
 -- an accepted run: "Response memory after the answer's last byte keeps its content."
 unfoldable pub accepted : State → List ℕ → List ℕ → Result
 accepted st answer response =

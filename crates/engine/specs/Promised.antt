@@ -3,14 +3,19 @@ use Prim.Native.Nat.{ℕ, _+_, _≤_, _<_}
 use mathlib.Core.List.{List}
 use lib.ListN.{length}
 use Rattle.card.specs.Row.{Card}
-use Rattle.journal.specs.Entries.{scriptsOnTrial, entryBytes, HasRoom}
-use Rattle.journal.specs.Sound.{Starts}
+use Rattle.journal.specs.Entries.{scriptsOnTrial, entryBytes}
+use Rattle.journal.specs.Promised.{HasRoom, Starts}
 use Rattle.journal.specs.Changes.{withMark}
 use Rattle.command.specs.declared.Format.{Format}
+use Rattle.engine.specs.declared.Answer.{Answer}
 use Rattle.engine.specs.declared.numbers.Start.{Start}
 use Rattle.engine.specs.declared.numbers.Start.the-variants.{Refused, Compact, Definite, Indefinite}
 use Rattle.step.specs.Limits.{longestScript}
 use Rattle.engine.specs.Numbers.{leastResponse}
+
+-- an answer's numbers are small: they find room in one number at the C boundary
+abbrev pub AnswerFits : Answer → Type 0
+AnswerFits a = (a .number < 256) × (a .count < 65536) × (a .length < 65536)
 
 -- the value of a template that a run starts with lies in the script
 unfoldable pub StartFits : ℕ → Start → Type 0

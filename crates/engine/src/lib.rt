@@ -10,6 +10,7 @@ ghost use mathlib.Core.Path.{_≡_};
 ghost use mathlib.Core.List.{[]};
 ghost use Rattle.card.specs.Row.{lent};
 ghost use Rattle.engine.specs.Calls as spec;
+ghost use Rattle.engine.specs.Promised.{AnswerFits};
 
 // What a call answers: its number, the length of the answer, and the count of commands.
 pub struct Answer {
@@ -43,7 +44,7 @@ pub fn run(
 ) -> Answer
     ensures { λ a. ⌜ (spec.gives a (lent (now (table .exit)) (now (files .exit)) (now (journal .exit))) (now (response .exit))
         ≡ spec.run (record { application = application; domain = domain; format = format; script = now (script .entry); response = now (response .entry) })
-        (lent (now (table .entry)) (now (files .entry)) (now (journal .entry)))) × spec.AnswerFits a ⌝ }
+        (lent (now (table .entry)) (now (files .entry)) (now (journal .entry)))) × AnswerFits a ⌝ }
 {
     let wide = octets::wide(domain);
     match start_of(
@@ -91,7 +92,7 @@ pub fn run(
 
 // Takes the newest script back where no number refuses it. Returns the number, with length 0 and count 0.
 pub fn take_back(table: &mut [u8], files: &mut [u8], journal: &mut [u8]) -> Answer
-    ensures { λ a. ⌜ (spec.gives a (lent (now (table .exit)) (now (files .exit)) (now (journal .exit))) [] ≡ spec.takeBack (lent (now (table .entry)) (now (files .entry)) (now (journal .entry)))) × spec.AnswerFits a ⌝ }
+    ensures { λ a. ⌜ (spec.gives a (lent (now (table .exit)) (now (files .exit)) (now (journal .exit))) [] ≡ spec.takeBack (lent (now (table .entry)) (now (files .entry)) (now (journal .entry)))) × AnswerFits a ⌝ }
 {
     if !journal::sound::sound_card(table, files, journal) {
         return numbered(1);
@@ -105,7 +106,7 @@ pub fn take_back(table: &mut [u8], files: &mut [u8], journal: &mut [u8]) -> Answ
 
 // Confirms all scripts where no number refuses it. Returns the number, with length 0 and count 0.
 pub fn confirm(table: &[u8], files: &[u8], journal: &mut [u8]) -> Answer
-    ensures { λ a. ⌜ (spec.gives a (lent (now (table .entry)) (now (files .entry)) (now (journal .exit))) [] ≡ spec.confirm (lent (now (table .entry)) (now (files .entry)) (now (journal .entry)))) × spec.AnswerFits a ⌝ }
+    ensures { λ a. ⌜ (spec.gives a (lent (now (table .entry)) (now (files .entry)) (now (journal .exit))) [] ≡ spec.confirm (lent (now (table .entry)) (now (files .entry)) (now (journal .entry)))) × AnswerFits a ⌝ }
 {
     if !journal::sound::sound_card(table, files, journal) {
         return numbered(1);

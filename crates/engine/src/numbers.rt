@@ -9,7 +9,8 @@ ghost use Prim.Native.Nat.{ℕ};
 ghost use lib.Dec.{leb, ltb, eqb};
 ghost use lib.ListN.{length};
 ghost use Rattle.card.specs.Row.{lent, entries, rowOf};
-ghost use Rattle.card.specs.Tree.{isRoot, ParentsSmaller};
+ghost use Rattle.card.specs.Tree.{isRoot};
+ghost use Rattle.card.specs.Promised.{ParentsSmaller};
 ghost use Rattle.engine.specs.Numbers as spec;
 ghost use Rattle.engine.specs.Promised.{StartFits};
 

@@ -9,7 +9,7 @@ ghost use Rattle.card.specs.Row.{lent};
 ghost use Rattle.command.specs.declared.Format.the-variants as formats;
 ghost use Rattle.journal.specs.Changes.{withMark};
 ghost use Rattle.engine.specs.Calls as spec;
-ghost use Rattle.engine.specs.Promised.{RunScriptAsks};
+ghost use Rattle.engine.specs.Promised.{RunScriptAsks, AnswerFits};
 
 // Sets the mark of a compact script, runs it, and writes its answer. Returns the number 0, the answer's length and the count of commands.
 pub fn run_compact(
@@ -24,7 +24,7 @@ pub fn run_compact(
     requires { ⌜ RunScriptAsks formats.Compact (lent (now table) (now files) (now journal)) application (now script) (now response) ⌝ }
     ensures { λ a. ⌜ (spec.gives a (lent (now (table .exit)) (now (files .exit)) (now (journal .exit))) (now (response .exit))
         ≡ spec.runScript formats.Compact (record { application = application; domain = domain; format = 0; script = now (script .entry); response = now (response .entry) })
-        (withMark (lent (now (table .entry)) (now (files .entry)) (now (journal .entry))))) × spec.AnswerFits a ⌝ }
+        (withMark (lent (now (table .entry)) (now (files .entry)) (now (journal .entry))))) × AnswerFits a ⌝ }
 {
     journal::write::mark(journal);
     let step = compact::run::run(script, application, domain, table, files, journal);
@@ -53,7 +53,7 @@ pub fn run_value(
     requires { ⌜ (at ≤ end) × (end ≤ length (now script)) × RunScriptAsks formats.Expanded (lent (now table) (now files) (now journal)) application (now script) (now response) ⌝ }
     ensures { λ a. ⌜ (spec.gives a (lent (now (table .exit)) (now (files .exit)) (now (journal .exit))) (now (response .exit))
         ≡ spec.runValue definite at end (record { application = application; domain = domain; format = 1; script = now (script .entry); response = now (response .entry) })
-        (withMark (lent (now (table .entry)) (now (files .entry)) (now (journal .entry))))) × spec.AnswerFits a ⌝ }
+        (withMark (lent (now (table .entry)) (now (files .entry)) (now (journal .entry))))) × AnswerFits a ⌝ }
 {
     journal::write::mark(journal);
     let mut rapdus = [0; ROOM_TO_GATHER];

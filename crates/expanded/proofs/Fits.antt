@@ -11,7 +11,8 @@ use Rattle.octets.specs.Choice.{pick}
 use Rattle.octets.specs.Bytes.{byte, AllBytes}
 use Rattle.octets.proofs.Picks.{and-left, on-pick}
 use Rattle.command.specs.declared.Reading.{Reading}
-use Rattle.expanded.specs.Capdu.{caseBySize, carried, capduCommand, CapduFits}
+use Rattle.expanded.specs.Capdu.{caseBySize, carried, capduCommand}
+use Rattle.expanded.specs.Promised.{CapduFits}
 
 -- a case with data has room for them
 case-sized : (capdu : List ℕ) → 3 ≤ caseBySize capdu → 5 + byte capdu 4 ≤ length capdu

@@ -15,8 +15,9 @@ use Rattle.octets.specs.Bytes.{AllBytes, part}
 use Rattle.card.specs.Row.{Card}
 use Rattle.tlv.specs.declared.template.Item.{Item}
 use Rattle.tlv.specs.declared.template.Item.the-variants.{Capdu, Bad, End}
-use Rattle.tlv.specs.Templates.{leastCapdu, itemAt, ItemFits}
-use Rattle.journal.specs.Sound.{Starts}
+use Rattle.tlv.specs.Templates.{leastCapdu, itemAt}
+use Rattle.tlv.specs.Promised.{ItemFits}
+use Rattle.journal.specs.Promised.{Starts}
 use Rattle.journal.specs.Changes.{takenBack}
 use Rattle.command.specs.declared.Step.{Step}
 use Rattle.command.specs.Outcomes.{wordOf, goesOn}

@@ -39,8 +39,3 @@ capduCommand capdu =
       from = pick (leb 3 (caseBySize capdu)) 5 4;
       size = carried capdu;
     }
-
--- the data of a C-APDU of bytes lie in it, and its numbers are bytes
-pub record CapduFits (capdu : List ℕ) (r : Reading) : Type 0 where
-  pub inside : r .from + r .size ≤ length capdu
-  pub bytes : OfBytes (r .command) (r .size)

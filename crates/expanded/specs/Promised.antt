@@ -1,17 +1,25 @@
--- What promises speak of besides the rules: what running a script and its items asks.
-use Prim.Native.Nat.{ℕ, _≤_, _<_}
+-- What promises speak of besides the rules: where the data of a C-APDU lie, and what running a script and its items asks.
+use Prim.Native.Nat.{ℕ, _+_, _≤_, _<_}
 use mathlib.Core.Path.{_≡_}
 use mathlib.Core.Bool.{true}
 use mathlib.Core.List.{List}
 use lib.ListN.{length}
 use Rattle.card.specs.Row.{Card}
 use Rattle.tlv.specs.Templates.{leastCapdu}
-use Rattle.journal.specs.Sound.{soundCard, Starts}
+use Rattle.journal.specs.Sound.{soundCard}
+use Rattle.journal.specs.Promised.{Starts}
 use Rattle.session.specs.Session.{mostWaiting}
 use Rattle.session.specs.Good.{Good}
+use Rattle.command.specs.declared.Reading.{Reading}
+use Rattle.command.specs.Promised.{OfBytes}
 use Rattle.step.specs.Limits.{longestScript, mostKept}
 use Rattle.expanded.specs.declared.run.Gathered.{Gathered}
 use Rattle.expanded.specs.Expanded.{roomToGather}
+
+-- the data of a C-APDU of bytes lie in it, and its numbers are bytes
+pub record CapduFits (capdu : List ℕ) (r : Reading) : Type 0 where
+  pub inside : r .from + r .size ≤ length capdu
+  pub bytes : OfBytes (r .command) (r .size)
 
 -- what the run of a C-APDU asks: a card and a session that are sound, few commands before it, and room for what it makes and for its
 -- R-APDU

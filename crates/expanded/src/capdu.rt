@@ -6,6 +6,7 @@ ghost use Prim.Native.Nat.{_+_, _≤_, _<_};
 ghost use lib.ListN.{length};
 ghost use Rattle.octets.specs.Bytes.{byte};
 ghost use Rattle.expanded.specs.Capdu as spec;
+ghost use Rattle.expanded.specs.Promised.{CapduFits};
 
 // Returns the byte after the header: P3, Le or Lc; 0 where there is none.
 fn fifth(capdu: &[u8]) -> usize
@@ -42,7 +43,7 @@ fn case_by_size(capdu: &[u8]) -> usize
 // Returns the command that a C-APDU is, and where its data lie in it.
 pub fn command_of(capdu: &[u8]) -> Reading
     requires { ⌜ 4 ≤ length (now capdu) ⌝ }
-    ensures { λ r. ⌜ (r ≡ spec.capduCommand (now (capdu .entry))) × spec.CapduFits (now (capdu .entry)) r ⌝ }
+    ensures { λ r. ⌜ (r ≡ spec.capduCommand (now (capdu .entry))) × CapduFits (now (capdu .entry)) r ⌝ }
 {
     let case = case_by_size(capdu);
     let command = Command {

@@ -12,7 +12,8 @@ use Rattle.octets.proofs.Picks.{and-right, and-both}
 use Rattle.octets.proofs.Same.{zero-zeros}
 use Rattle.card.specs.Row.{Card}
 use Rattle.journal.specs.declared.Head.{Head}
-use Rattle.journal.specs.Entries.{Entry, headSize, head, usedBytes, room, encode, entriesOf, HasRoom}
+use Rattle.journal.specs.Entries.{Entry, headSize, head, usedBytes, room, encode, entriesOf}
+use Rattle.journal.specs.Promised.{HasRoom}
 use Rattle.journal.specs.Sound.{mostScripts, entrySound, allSound, oldestIsMark, marks}
 use Rattle.journal.specs.Changes.{pushed, cutBack}
 use Rattle.journal.proofs.Entries.{Reading}

@@ -14,7 +14,8 @@ use Rattle.octets.specs.Choice.{pick}
 use Rattle.octets.specs.Bytes.{byte}
 use Rattle.card.specs.Row.{Card}
 use Rattle.card.specs.Sound.{soundTable}
-use Rattle.journal.specs.Entries.{Entry, scriptsOnTrial, entryBytes, isMark, mark, entriesOf, HasRoom}
+use Rattle.journal.specs.Entries.{Entry, scriptsOnTrial, entryBytes, isMark, mark, entriesOf}
+use Rattle.journal.specs.Promised.{HasRoom}
 use Rattle.journal.specs.Sound.{mostScripts, formSound, entrySound, allSound, lastIsMark, oldestIsMark, marks, soundCard}
 use Rattle.journal.specs.Changes.{Write, withJournal, marked, withMark, kindFor, entryFor, write, perform, cost, restore, sinceMark, behindMark, bytesTaken, takenBack, confirmed}
 use Rattle.journal.proofs.Entries.{none, read-all}

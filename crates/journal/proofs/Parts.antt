@@ -12,7 +12,8 @@ use Rattle.octets.proofs.Picks.{and-left, and-right, and-both}
 use Rattle.octets.proofs.Same.{same-true, same-refl}
 use Rattle.card.specs.Row.{Card}
 use Rattle.card.specs.Sound.{soundTable}
-use Rattle.journal.specs.Entries.{headSize, head, headBytes, usedBytes, scriptsOnTrial, room, HasRoom, entriesOf}
+use Rattle.journal.specs.Entries.{headSize, head, headBytes, usedBytes, scriptsOnTrial, room, entriesOf}
+use Rattle.journal.specs.Promised.{HasRoom}
 use Rattle.journal.specs.Sound.{journalLength, mostScripts, headSound, allSound, oldestIsMark, marks, entriesSound, soundJournal, soundCard}
 
 -- what a journal's soundness promises beside a table and a file memory

@@ -13,7 +13,8 @@ use Rattle.octets.specs.Bytes.{byte, part, bytes2, overwrite}
 use Rattle.octets.proofs.Writes.{part-part, part-before, part-here, write-length, drop-after}
 use Rattle.octets.proofs.Numbers.{num-of-part, byte-part}
 use Rattle.journal.specs.declared.Head.{Head}
-use Rattle.journal.specs.Entries.{Entry, headSize, head, headBytes, headOf, usedBytes, scriptsOnTrial, flagOf, HasRoom, encode, entryBytes, mark, entriesOf}
+use Rattle.journal.specs.Entries.{Entry, headSize, head, headBytes, headOf, usedBytes, scriptsOnTrial, flagOf, encode, entryBytes, mark, entriesOf}
+use Rattle.journal.specs.Promised.{HasRoom}
 use Rattle.journal.specs.Changes.{pushed, marked}
 use Rattle.journal.proofs.Entries.{read-all, read-only, same-reading}
 use Rattle.journal.proofs.Tails.{encode-length, next-reading}

@@ -11,7 +11,8 @@ use Rattle.octets.proofs.Same.{zero-true}
 use Rattle.octets.proofs.Writes.{write-none, write-two, drop-after}
 use Rattle.card.specs.Row.{Card, lent}
 use Rattle.journal.specs.declared.Head.{Head}
-use Rattle.journal.specs.Entries.{Entry, entryOf, headSize, head, headBytes, headOf, tail, encode, entryBytes, marksStart, mark, HasRoom, entriesBack, entriesOf, usedBytes, scriptsOnTrial, flagOf}
+use Rattle.journal.specs.Entries.{Entry, entryOf, headSize, head, headBytes, headOf, tail, encode, entryBytes, marksStart, mark, entriesBack, entriesOf, usedBytes, scriptsOnTrial, flagOf}
+use Rattle.journal.specs.Promised.{HasRoom}
 use Rattle.journal.specs.Sound.{allSound, marks, soundCard}
 use Rattle.journal.specs.Changes.{headAfter, pushed, marked, restore, sinceMark, behindMark, bytesTaken, cutBack, withJournal, takenBack}
 use Rattle.journal.proofs.Tails.{encode-length}

@@ -9,7 +9,8 @@ use Rattle.octets.specs.Choice.{pick}
 use Rattle.octets.specs.Bytes.{part, zeros}
 use Rattle.card.specs.Row.{Card}
 use Rattle.journal.specs.declared.Head.{Head}
-use Rattle.journal.specs.Entries.{Entry, headSize, head, headBytes, usedBytes, scriptsOnTrial, entryBytes, mark, entriesOf, HasRoom}
+use Rattle.journal.specs.Entries.{Entry, headSize, head, headBytes, usedBytes, scriptsOnTrial, entryBytes, mark, entriesOf}
+use Rattle.journal.specs.Promised.{HasRoom}
 use Rattle.journal.specs.Sound.{soundCard}
 use Rattle.journal.specs.Changes.{Write, withJournal, marked, withMark, entryFor, write, perform, cost, memoryFor, restoreOne, restore, sinceMark, behindMark, bytesTaken, cutBack, takenBack}
 use Rattle.journal.proofs.Entries.{part-same}

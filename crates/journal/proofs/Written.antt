@@ -12,7 +12,8 @@ use lib.ListN.{length}
 use Rattle.octets.proofs.Writes.{part-length}
 use Rattle.card.specs.Row.{Card}
 use Rattle.card.proofs.Promises.{few-bytes, few-entries, whole-entries}
-use Rattle.journal.specs.Entries.{headSize, usedBytes, scriptsOnTrial, entryBytes, encode, mark, entriesOf, HasRoom}
+use Rattle.journal.specs.Entries.{headSize, usedBytes, scriptsOnTrial, entryBytes, encode, mark, entriesOf}
+use Rattle.journal.specs.Promised.{HasRoom}
 use Rattle.journal.specs.Sound.{soundCard}
 use Rattle.journal.specs.declared.Memory.{Memory}
 use Rattle.journal.specs.declared.Memory.the-variants.{Files, Table}

@@ -38,10 +38,6 @@ headOf j = head (usedBytes j) (scriptsOnTrial j) (flagOf j)
 unfoldable pub room : List ℕ → ℕ
 room j = length j - headSize
 
--- a journal has room for n bytes more, after its used ones
-abbrev pub HasRoom : List ℕ → ℕ → Type 0
-HasRoom j n = headSize + usedBytes j + n ≤ length j
-
 -- "An entry is n old bytes and an 8-byte tail"
 pub record Entry : Type 0 where
   pub kind : ℕ

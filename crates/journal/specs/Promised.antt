@@ -1,11 +1,16 @@
--- What promises speak of besides the rules: the bounds of a tail that was read, and what a write asks.
+-- What promises speak of besides the rules: the bounds of a tail that was read, a journal's room, what a write asks, and what a script
+-- starts from.
 use Prim.Native.Nat.{ℕ, _+_, _≤_, _<_}
 use mathlib.Core.Path.{_≡_}
+use mathlib.Core.Bool.{true}
 use mathlib.Core.List.{List}
 use lib.ListN.{length}
+use Rattle.card.specs.Row.{Card, entries, rowOf}
+use Rattle.card.specs.Tree.{isRoot}
 use Rattle.journal.specs.declared.Head.{Head}
 use Rattle.journal.specs.declared.Tail.{Tail}
-use Rattle.journal.specs.Entries.{headSize, headOf, entryBytes}
+use Rattle.journal.specs.Entries.{headSize, headOf, usedBytes, scriptsOnTrial, entryBytes}
+use Rattle.journal.specs.Sound.{soundCard}
 
 -- the kind is a byte, place and size are 16-bit numbers
 pub record TailFits (t : Tail) : Type 0 where
@@ -21,3 +26,14 @@ pub record WriteAsks (memory journal : List ℕ) (h : Head) (start size offset n
   pub head : h ≡ headOf journal
   pub short : length journal ≤ 65535
   pub left : headSize + h .used + entryBytes n ≤ length journal
+
+-- a journal has room for n bytes more, after its used ones
+abbrev pub HasRoom : List ℕ → ℕ → Type 0
+HasRoom j n = headSize + usedBytes j + n ≤ length j
+
+-- what a script starts from: a sound card that has the script's mark, and an application, which is its own root
+pub record Starts (card : Card) (application : ℕ) : Type 0 where
+  pub sound : soundCard card ≡ true
+  pub marked : 1 ≤ scriptsOnTrial (card .journal)
+  pub inside : application < entries (card .table)
+  pub root : isRoot (rowOf (card .table) application) ≡ true

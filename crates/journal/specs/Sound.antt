@@ -92,10 +92,3 @@ soundJournal t files j =
 -- a card: table, file memory and journal
 unfoldable pub soundCard : Card → Bool
 soundCard c = soundTable (c .table) (c .files) && soundJournal (c .table) (c .files) (c .journal)
-
--- what a script starts from: a sound card that has the script's mark, and an application, which is its own root
-pub record Starts (card : Card) (application : ℕ) : Type 0 where
-  pub sound : soundCard card ≡ true
-  pub marked : 1 ≤ scriptsOnTrial (card .journal)
-  pub inside : application < entries (card .table)
-  pub root : isRoot (rowOf (card .table) application) ≡ true

@@ -11,9 +11,9 @@ ghost use mathlib.Core.Path.{_≡_};
 ghost use Prim.Native.Nat.{_+_, _≤_, _<_};
 ghost use lib.ListN.{length};
 ghost use Rattle.octets.specs.Bytes.{part, overwrite};
-ghost use Rattle.journal.specs.Entries.{HasRoom, entryBytes, entryOf, headOf, headBytes, scriptsOnTrial, tail};
+ghost use Rattle.journal.specs.Entries.{entryBytes, entryOf, headOf, headBytes, scriptsOnTrial, tail};
+ghost use Rattle.journal.specs.Promised.{HasRoom, WriteAsks};
 ghost use Rattle.journal.specs.Changes.{headAfter, kindFor, marked, pushed};
-ghost use Rattle.journal.specs.Promised.{WriteAsks};
 
 // Returns the eight bytes of a tail.
 fn tail_bytes(kind: u8, place: usize, n: usize) -> [u8; 8]

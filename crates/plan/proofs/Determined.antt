@@ -72,7 +72,7 @@ module _ (κs : Lfts 0) where
   failed-determined = by-equation (λ args a e h. by-plan a [] _ (h .0 []) (h .1))
 
   pub waited-determined : Determined (waited.Learnt κs) (λ args a e. a)
-  waited-determined = by-equation (λ args a e h i. record { session = h .0 i; outcome = h .1 i; made = h .2 i; change = h .3 i })
+  waited-determined = by-equation (λ args a e h. by-plan a [] _ (h .0 []) (h .1))
 
   pub read-binary-determined : Determined (read-binary.Learnt κs) (λ args a e. a)
   read-binary-determined = by-equation (λ args a e h. by-plan a [] _ (λ bytes. h .0 [] bytes (seen 0 (args .1 .1 .1 .0) []) refl) (h .1))

@@ -7,15 +7,15 @@ use mathlib.Core.Bool.{false}
 use lib.ListN.{length, take}
 use Rattle.octets.specs.Choice.{pick}
 use Rattle.card.specs.declared.Row.{Row}
-use Rattle.card.specs.Row.{RowFits, isCyclic, placeOfNewest}
-use Rattle.card.specs.Promised.{RecordOffsetAsks}
+use Rattle.card.specs.Row.{isCyclic, placeOfNewest}
+use Rattle.card.specs.Promised.{RowFits, RecordOffsetAsks}
 use Rattle.card.specs.Sound.{mostRecords, recordCount}
 use Rattle.card.specs.Records.{recordOffset, oldestPlace}
 use Rattle.journal.specs.declared.Memory.the-variants.{Files, Table}
 use Rattle.journal.specs.Changes.{Write}
 use Rattle.session.specs.declared.Standing.{Standing}
 use Rattle.session.specs.Session.{mostWaiting}
-use Rattle.session.specs.Fcp.{FcpFits}
+use Rattle.session.specs.Promised.{FcpFits}
 use Rattle.command.specs.declared.Command.{Command}
 use Rattle.command.specs.declared.checks.Check.the-variants.{SumTooLong}
 use Rattle.plan.specs.declared.NewRecord.{NewRecord}

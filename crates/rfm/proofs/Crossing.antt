@@ -7,7 +7,8 @@ use native.Mathlib.Omega.{arith}
 use lib.Arith.{digits-div, digits-mod}
 use Rattle.card.specs.Row.{Card}
 use Rattle.engine.specs.declared.Answer.{Answer}
-use Rattle.engine.specs.Calls.{Result, gives, AnswerFits}
+use Rattle.engine.specs.Calls.{Result, gives}
+use Rattle.engine.specs.Promised.{AnswerFits}
 use Rattle.rfm.specs.Packed.{packed, numberIn, countIn, lengthIn, answerIn, crosses, across}
 
 -- the number's digits: the call's number below 2^8, the count below 2^24 above it, and the length above both

@@ -5,10 +5,11 @@ ghost use mathlib.Core.List.{[]};
 ghost use Rattle.card.specs.Row.{lent};
 ghost use Rattle.engine.specs.Calls as calls;
 ghost use Rattle.rfm.specs.Packed.{packed, crosses, across};
+ghost use Rattle.engine.specs.Promised.{AnswerFits};
 
 // Returns an answer in one number.
 fn packed_answer(a: Answer) -> u64
-    requires { ⌜ calls.AnswerFits a ⌝ }
+    requires { ⌜ AnswerFits a ⌝ }
     ensures { λ r. ⌜ r ≡ packed a ⌝ }
 {
     a.number as u64 + (256 * (a.count as u64) + 4294967296 * (a.length as u64))

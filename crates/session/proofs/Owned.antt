@@ -17,7 +17,8 @@ use Rattle.card.specs.declared.tree.Found.{Found}
 use Rattle.card.specs.declared.tree.Found.the-variants.{At, Nothing}
 use Rattle.card.specs.Row.{entries, rowOf, canBeChild}
 use Rattle.card.specs.Sound.{soundTable}
-use Rattle.card.specs.Tree.{orElse, childWith, child, childDF, isRoot, ParentsSmaller, ParentsInside, rootOf}
+use Rattle.card.specs.Tree.{orElse, childWith, child, childDF, isRoot, rootOf}
+use Rattle.card.specs.Promised.{ParentsSmaller, ParentsInside}
 use Rattle.card.proofs.Kin.{child-inside, child-child, root-itself, root-of-parent}
 use Rattle.card.proofs.Promises.{parent-inside, parents-smaller}
 use Rattle.session.specs.Select.{ifNamed, above, byIdentifier, byPath, find}

@@ -15,7 +15,8 @@ use Rattle.card.specs.declared.Row.{Row}
 use Rattle.card.specs.Row.{entries, rowOf, isDirectory, isTransparent, hasRecords}
 use Rattle.card.specs.Sound.{recordCount, soundTable}
 use Rattle.card.proofs.Promises.{directory-kind, kind-is-file, file-no-directory, record-some, records-few, entry-own, entry-kind}
-use Rattle.session.specs.Fcp.{FcpFits, descriptor, fcp82, fcp83, fcp8A, fcp80, fcpBody, fcp}
+use Rattle.session.specs.Fcp.{descriptor, fcp82, fcp83, fcp8A, fcp80, fcpBody, fcp}
+use Rattle.session.specs.Promised.{FcpFits}
 
 module _ (r : Row) where
   pub directory-fcp : isDirectory r ≡ true → 0x62 ∷ 11 ∷ 0x82 ∷ 2 ∷ 0x78 ∷ 0x21 ∷ (fcp83 r ++ fcp8A r) ≡ fcp r

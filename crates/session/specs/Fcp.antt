@@ -9,12 +9,6 @@ use Rattle.card.specs.declared.Row.{Row}
 use Rattle.card.specs.Row.{isDirectory, isTransparent, isLinear, hasRecords}
 use Rattle.card.specs.Sound.{recordCount}
 
--- what the FCP needs of an entry, and every entry of a sound table has: a kind, and as a record file records that a byte counts
-pub record FcpFits (r : Row) : Type 0 where
-  pub least : 1 ≤ r .kind
-  pub most : r .kind ≤ 6
-  pub records : 5 ≤ r .kind → (1 ≤ r .«record_length») × (recordCount r < 256)
-
 -- the file descriptor byte: "(78 directory, 41 transparent)", "(42 linear, 46 cyclic)"
 unfoldable pub descriptor : Row → ℕ
 descriptor r = pick (isDirectory r) 0x78 (pick (isTransparent r) 0x41 (pick (isLinear r) 0x42 0x46))

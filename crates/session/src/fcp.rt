@@ -5,8 +5,9 @@ ghost use mathlib.Core.Bool.{true};
 ghost use Prim.Native.Nat.{_≤_};
 ghost use lib.ListN.{length};
 ghost use Rattle.octets.specs.Bytes.{overwrite};
-ghost use Rattle.card.specs.Row.{RowFits, isDirectory, isTransparent};
-ghost use Rattle.session.specs.Fcp.{FcpFits};
+ghost use Rattle.card.specs.Row.{isDirectory, isTransparent};
+ghost use Rattle.card.specs.Promised.{RowFits};
+ghost use Rattle.session.specs.Promised.{FcpFits};
 ghost use Rattle.session.specs.Fcp as spec;
 
 // Returns the FCP of a directory.

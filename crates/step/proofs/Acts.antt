@@ -10,7 +10,8 @@ use Rattle.card.specs.Row.{Card, lent, placeOfNewest}
 use Rattle.journal.specs.declared.Head.{Head}
 use Rattle.journal.specs.declared.Memory.{Memory}
 use Rattle.journal.specs.declared.Memory.the-variants.{Files, Table}
-use Rattle.journal.specs.Entries.{Entry, entryOf, entryBytes, encode, scriptsOnTrial, HasRoom}
+use Rattle.journal.specs.Entries.{Entry, entryOf, entryBytes, encode, scriptsOnTrial}
+use Rattle.journal.specs.Promised.{HasRoom}
 use Rattle.journal.specs.Changes.{memoryOf, withJournal, withMemory, pushed, kindFor, entryFor, write, perform, cost}
 use Rattle.journal.proofs.Tails.{encode-length}
 use Rattle.journal.proofs.Pushed.{pushed-length, pushed-used}

@@ -9,8 +9,9 @@ use Rattle.octets.specs.Bytes.{overwrite}
 use Rattle.octets.proofs.Writes.{write-length}
 use Rattle.card.specs.Row.{Card}
 use Rattle.card.proofs.Promises.{few-entries}
-use Rattle.journal.specs.Entries.{scriptsOnTrial, HasRoom}
-use Rattle.journal.specs.Sound.{soundCard, Starts}
+use Rattle.journal.specs.Entries.{scriptsOnTrial}
+use Rattle.journal.specs.Promised.{HasRoom, Starts}
+use Rattle.journal.specs.Sound.{soundCard}
 use Rattle.journal.specs.Changes.{Write, perform, cost, takenBack}
 use Rattle.journal.proofs.Parts.{card-table, card-parts}
 use Rattle.journal.proofs.Written.{Writable, sound-writable, AllFit, write-scripts, perform-same}

@@ -10,7 +10,7 @@ use borrow.Author.Tests.{le-ltb}
 use Rattle.octets.specs.Choice.{pick}
 use Rattle.octets.proofs.Picks.{pick-true, pick-false}
 use Rattle.card.specs.Row.{Card}
-use Rattle.journal.specs.Entries.{HasRoom}
+use Rattle.journal.specs.Promised.{HasRoom}
 use Rattle.journal.specs.Changes.{cost}
 use Rattle.journal.proofs.Parts.{card-table}
 use Rattle.session.specs.declared.Standing.{Standing}

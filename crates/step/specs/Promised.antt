@@ -5,7 +5,8 @@ use mathlib.Core.List.{List}
 use lib.ListN.{length}
 use Rattle.card.specs.Row.{Card}
 use Rattle.journal.specs.declared.Head.{Head}
-use Rattle.journal.specs.Entries.{headOf, HasRoom}
+use Rattle.journal.specs.Entries.{headOf}
+use Rattle.journal.specs.Promised.{HasRoom}
 use Rattle.journal.specs.Changes.{cost}
 use Rattle.session.specs.declared.Standing.{Standing}
 use Rattle.session.specs.Session.{mostWaiting}

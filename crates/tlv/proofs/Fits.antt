@@ -15,8 +15,9 @@ use Rattle.tlv.specs.declared.lengths.Length.{Length}
 use Rattle.tlv.specs.declared.lengths.Length.the-variants.{Found, Bad}
 use Rattle.tlv.specs.declared.template.Template.{Template}
 use Rattle.tlv.specs.declared.template.Item.{Item}
-use Rattle.tlv.specs.Lengths.{wrongLength, lengthMissing, shortLength, longLength, lengthAt, LengthFits}
-use Rattle.tlv.specs.Templates.{definite, indefinite, templateOf, TemplateFits, isCapduTag, valueAt, itemAt, ItemFits}
+use Rattle.tlv.specs.Lengths.{wrongLength, lengthMissing, shortLength, longLength, lengthAt}
+use Rattle.tlv.specs.Promised.{LengthFits, TemplateFits, ItemFits}
+use Rattle.tlv.specs.Templates.{definite, indefinite, templateOf, isCapduTag, valueAt, itemAt}
 
 -- what comes of a length
 definite-fits : (l : Length) (at end : ℕ) → LengthFits at end l → TemplateFits end (definite l end)

@@ -41,11 +41,6 @@ lengthAt bs at end =
     (pick (eqb (byte bs at) 0x82) (longLength bs (at + 1) end) (Bad wrongLength))))
     (Bad lengthMissing)
 
--- what reading a length promises: the place after it is further on and not past the end, or the code is a byte
-unfoldable pub LengthFits : ℕ → ℕ → Length → Type 0
-LengthFits at end (Found n place) = (at < place) × (place ≤ end) × (n < 65536)
-LengthFits at end (Bad code) = code < 256
-
 -- the code that a length which was not found leaves
 unfoldable pub codeOf : Length → ℕ
 codeOf (Found n place) = 0

@@ -33,12 +33,6 @@ templateOf script =
     (definite (lengthAt script 1 (length script)) (length script))
     (pick (eqb (byte script 0) 0xAE) (indefinite script (length script)) Missing)
 
--- a template's value lies in the script
-unfoldable pub TemplateFits : ℕ → Template → Type 0
-TemplateFits script (Definite at end) = (at ≤ end) × (end ≤ script)
-TemplateFits script (Indefinite at end) = (at ≤ end) × (end ≤ script)
-TemplateFits script Missing = Unit
-
 -- "Inside, tag 22 or A2 is a C-APDU, and the value of a TLV is a part of the script."
 unfoldable pub isCapduTag : ℕ → Bool
 isCapduTag tag = eqb tag 0x22 || eqb tag 0xA2
@@ -58,9 +52,3 @@ itemAt script at end =
     pick (ltb at end)
     (pick (isCapduTag (byte script at)) (valueAt (lengthAt script (at + 1) end) end) (Bad otherTag))
     End
-
--- a C-APDU that stands there lies in the value, after the place, and has at least four bytes; a bad format stands in the value
-unfoldable pub ItemFits : ℕ → ℕ → Item → Type 0
-ItemFits at end (Capdu from size) = (at < from) × (from + size ≤ end) × (leastCapdu ≤ size)
-ItemFits at end (Bad code) = (at < end) × (code < 256)
-ItemFits at end End = Unit

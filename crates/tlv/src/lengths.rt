@@ -4,6 +4,7 @@ ghost use Prim.Native.Nat.{_+_, _≤_, _<_};
 ghost use lib.ListN.{length};
 ghost use Rattle.octets.specs.Bytes.{overwrite};
 ghost use Rattle.tlv.specs.Lengths as spec;
+ghost use Rattle.tlv.specs.Promised.{LengthFits};
 
 // "Bad format TLV 90 01: 01 other tag; 03 no length byte, or too few after 81 or 82; 02 other length form, past the end, or below 4."
 pub const OTHER_TAG: usize = 1;
@@ -51,7 +52,7 @@ fn long_length(bytes: &[u8], at: usize, end: usize) -> Length
 // Returns the length that stands at the place `at`, in bytes that end at `end`.
 pub(crate) fn length_at(bytes: &[u8], at: usize, end: usize) -> Length
     requires { ⌜ (at ≤ end) × (end ≤ length (now bytes)) ⌝ }
-    ensures { λ r. ⌜ (r ≡ spec.lengthAt (now (bytes .entry)) at end) × spec.LengthFits at end r ⌝ }
+    ensures { λ r. ⌜ (r ≡ spec.lengthAt (now (bytes .entry)) at end) × LengthFits at end r ⌝ }
 {
     if end - at < 1 {
         return Length::Bad(LENGTH_MISSING);

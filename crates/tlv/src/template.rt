@@ -10,6 +10,7 @@ ghost use lib.ListN.{length};
 ghost use Rattle.octets.specs.Bytes.{part};
 ghost use Rattle.tlv.specs.Lengths.{lengthAt};
 ghost use Rattle.tlv.specs.Templates as spec;
+ghost use Rattle.tlv.specs.Promised.{TemplateFits, ItemFits};
 
 // The template of a script: its form, and where its value begins and ends; or none.
 pub enum Template {
@@ -58,7 +59,7 @@ fn indefinite(script: &[u8]) -> Template
 
 // Returns the template of a script.
 pub fn template_of(script: &[u8]) -> Template
-    ensures { λ t. ⌜ (t ≡ spec.templateOf (now (script .entry))) × spec.TemplateFits (length (now (script .entry))) t ⌝ }
+    ensures { λ t. ⌜ (t ≡ spec.templateOf (now (script .entry))) × TemplateFits (length (now (script .entry))) t ⌝ }
 {
     if script.len() < 1 {
         return Template::Missing;
@@ -90,7 +91,7 @@ fn value_at(script: &[u8], at: usize, end: usize) -> Item
 // Returns what stands at the place `at` of a value that ends at `end`.
 pub fn item_at(script: &[u8], at: usize, end: usize) -> Item
     requires { ⌜ (at ≤ end) × (end ≤ length (now script)) ⌝ }
-    ensures { λ r. ⌜ (r ≡ spec.itemAt (now (script .entry)) at end) × spec.ItemFits at end r ⌝ }
+    ensures { λ r. ⌜ (r ≡ spec.itemAt (now (script .entry)) at end) × ItemFits at end r ⌝ }
 {
     if end <= at {
         return Item::End;

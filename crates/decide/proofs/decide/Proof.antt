@@ -193,7 +193,7 @@ module _ (c : tie.After-room-of) where
   roomy change h =
       record {
         brief = origin .pre .0 .bytes .brief;
-        narrow = c .before .head-of .ensures .1;
+        short = c .before .head-of .ensures .1;
         inside = rw (own-used _ (c .before .head-of .ensures .0), c .room-of .ensures) (journal-parts (origin .pre .0) .used);
         cost = fits-brief _ _ _ change h;
       }

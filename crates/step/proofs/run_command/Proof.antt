@@ -3,7 +3,7 @@ use mathlib.Core.Path.{_≡_, sym, ap, subst, _∙_}
 use native.Mathlib.Omega.{arith}
 use lib.ListN.{length}
 use Rattle.card.specs.Row.{Card, lent}
-use Rattle.journal.specs.Entries.{HasRoom}
+use Rattle.journal.specs.Promised.{HasRoom}
 use Rattle.journal.specs.Sound.{journalLength}
 use Rattle.journal.specs.Changes.{cost}
 use Rattle.journal.proofs.Parts.{card-parts}

@@ -5,7 +5,8 @@ use mathlib.Core.List.{List}
 use native.Mathlib.Omega.{arith}
 use Rattle.card.specs.declared.Row.{Row}
 use Rattle.card.specs.Row.{entries, rowOf}
-use Rattle.card.specs.Tree.{isRoot, ParentsSmaller}
+use Rattle.card.specs.Tree.{isRoot}
+use Rattle.card.specs.Promised.{ParentsSmaller}
 use Rattle.card.proofs.Kin.{root-here, root-above}
 use Prim.Native.Nat.{ℕ, _<_}
 use borrow.Fn.Kinds.{In}

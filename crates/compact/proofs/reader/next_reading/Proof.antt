@@ -35,7 +35,8 @@ use denote.Triple.Spec.{Meets, tripleOf}
 use denote.Triple.Table.{entered, cited}
 use denote.Triple.Walked.{says, needs, Stays, stay-none, stay-none-slice, walkOf, goes-none, goes-none-slice, Walks, ends-at, walked, walk-meets}
 use denote.Exit.{yes}
-use Rattle.compact.specs.Compact.{readAt, ReadingFits}
+use Rattle.compact.specs.Compact.{readAt}
+use Rattle.compact.specs.Promised.{ReadingFits}
 use Rattle.command.specs.declared.reader.Reader.{Reader}
 use Rattle.command.specs.declared.Reading.{Reading}
 use Rattle.command.proofs.Walked.{comes-back}

@@ -2,7 +2,7 @@
 use mathlib.Core.Path.{sym, ap, subst}
 use lib.ListN.{length}
 use borrow.Author.Needs.{needs}
-use Rattle.tlv.specs.Templates.{TemplateFits}
+use Rattle.tlv.specs.Promised.{TemplateFits}
 use Rattle.command.specs.declared.Format.{Format}
 use Rattle.engine.specs.Numbers.{templateStart, scriptStart}
 use Rattle.engine.specs.Promised.{StartFits}

@@ -9,7 +9,8 @@ use borrow.Author.Tests.{eq-eqb, le-leb, leb-false}
 use Rattle.octets.specs.Bytes.{overwrite}
 use Rattle.card.specs.declared.Row.{Row}
 use Rattle.card.specs.Row.{isDirectory}
-use Rattle.session.specs.Fcp.{FcpFits, fcp}
+use Rattle.session.specs.Fcp.{fcp}
+use Rattle.session.specs.Promised.{FcpFits}
 use borrow.Author.Needs.{needs}
 use Rattle.session.proofs.fcp.put_fcp.Statement.{statement}
 use Rattle.session.proofs.fcp.put_fcp.Tie as tie

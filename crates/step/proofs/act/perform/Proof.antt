@@ -12,7 +12,7 @@ use lib.ListN.{length, take}
 use lib.Seq.{length-take-le}
 use Rattle.card.specs.Row.{Card, lent}
 use Rattle.journal.specs.declared.Memory.the-variants.{Files}
-use Rattle.journal.specs.Entries.{HasRoom}
+use Rattle.journal.specs.Promised.{HasRoom}
 use Rattle.journal.specs.Changes as changes
 use Rattle.journal.proofs.Pushed.{own-used}
 use Rattle.plan.specs.Promised.{writesOf, Fits}

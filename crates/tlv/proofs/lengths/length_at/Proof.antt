@@ -4,7 +4,8 @@ use Prim.Native.Nat.{_+_, _≤_, _<_}
 use native.Mathlib.Omega.{arith}
 use Rattle.octets.proofs.Picks.{picks}
 use Rattle.tlv.specs.declared.lengths.Length.{Length}
-use Rattle.tlv.specs.Lengths.{lengthAt, LengthFits}
+use Rattle.tlv.specs.Lengths.{lengthAt}
+use Rattle.tlv.specs.Promised.{LengthFits}
 use Rattle.tlv.proofs.Fits.{length-told}
 use borrow.Author.Needs.{needs}
 use Rattle.tlv.proofs.lengths.length_at.Statement.{statement}

@@ -2,7 +2,7 @@
 use mathlib.Core.Path.{refl, sym, _∙_}
 use native.Mathlib.Omega.{arith}
 use Rattle.octets.proofs.Picks.{eq-yes, eq-no}
-use Rattle.tlv.specs.Lengths.{LengthFits}
+use Rattle.tlv.specs.Promised.{LengthFits}
 use Rattle.tlv.specs.Templates.{definite}
 use borrow.Author.Needs.{needs}
 use Rattle.tlv.proofs.template.definite.Statement.{statement}

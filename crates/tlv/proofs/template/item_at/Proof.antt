@@ -3,7 +3,8 @@ use mathlib.Core.Path.{_≡_, refl, sym, _∙_}
 use borrow.Author.Tests.{not-true, not-false}
 use Rattle.octets.proofs.Picks.{pick-true, pick-false, lt-yes, lt-no}
 use Rattle.tlv.specs.declared.template.Item.{Item}
-use Rattle.tlv.specs.Templates.{isCapduTag, itemAt, ItemFits}
+use Rattle.tlv.specs.Templates.{isCapduTag, itemAt}
+use Rattle.tlv.specs.Promised.{ItemFits}
 use Rattle.tlv.proofs.Fits.{item-told}
 use borrow.Author.Needs.{needs}
 use Rattle.tlv.proofs.template.item_at.Statement.{statement}

@@ -5,7 +5,8 @@ use Rattle.octets.specs.Choice.{pick}
 use native.Mathlib.Omega.{arith}
 use Rattle.octets.proofs.Picks.{picks}
 use Rattle.tlv.specs.declared.template.Template.{Template}
-use Rattle.tlv.specs.Templates.{templateOf, TemplateFits}
+use Rattle.tlv.specs.Templates.{templateOf}
+use Rattle.tlv.specs.Promised.{TemplateFits}
 use Rattle.tlv.proofs.Fits.{template-told}
 use borrow.Author.Needs.{needs}
 use Rattle.tlv.proofs.template.template_of.Statement.{statement}

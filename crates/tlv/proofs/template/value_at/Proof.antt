@@ -2,7 +2,8 @@
 use mathlib.Core.Path.{sym, _∙_}
 use native.Mathlib.Omega.{arith}
 use Rattle.octets.proofs.Picks.{pick-true, pick-false}
-use Rattle.tlv.specs.Lengths.{LengthFits, codeOf}
+use Rattle.tlv.specs.Lengths.{codeOf}
+use Rattle.tlv.specs.Promised.{LengthFits}
 use Rattle.tlv.specs.Templates.{valueAt}
 use borrow.Author.Needs.{needs}
 use Rattle.tlv.proofs.template.value_at.Statement.{statement}
