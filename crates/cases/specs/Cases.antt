@@ -133,9 +133,9 @@ mostInLine = 6288
 -- what such a line asks: room for it, and parts that are no longer than they can be
 pub record PutLabelledAsks (out label response journal : List ℕ) : Type 0 where
   pub room : mostInLine ≤ length out
-  pub label : length label ≤ longestLabel
-  pub response : length response ≤ 1024
-  pub journal : length journal ≤ 2048
+  pub labelShort : length label ≤ longestLabel
+  pub responseShort : length response ≤ 1024
+  pub journalShort : length journal ≤ 2048
 
 -- the line of a run
 unfoldable pub runLine : List ℕ → Result → List ℕ

@@ -16,19 +16,14 @@ use Rattle.command.specs.declared.Command.{Command}
 use Rattle.command.specs.declared.checks.Check.{Check}
 use Rattle.command.specs.declared.checks.Check.the-variants.{NotFound, AnswerTooLong}
 use Rattle.command.specs.declared.Outcome.{Outcome}
-use Rattle.command.specs.declared.Outcome.the-variants.{Well, FromFiles, FromWaiting, Error}
+use Rattle.command.specs.declared.Outcome.the-variants.{Error}
+use Rattle.command.specs.Outcomes.{isError}
 use Rattle.plan.specs.Ends.{Plan, failed, done, handed, produced}
 use Rattle.plan.specs.Files.{File}
 use Rattle.plan.specs.Plans.{Situation, selectEntry, select, readBinary, updateBinary, readRecord, updateRecord, searched, search, increase, switch, getResponse, doneBy}
 use Rattle.decide.specs.Decisions.{planned}
 use Rattle.step.specs.Limits.{limited}
 use Rattle.decide.proofs.Instructed.{of-planned, by-instruction}
-
-abbrev isError : Outcome → Bool
-isError (Well word) = false
-isError (FromFiles word place n) = false
-isError (FromWaiting word n) = false
-isError (Error k) = true
 
 module _ (s : Standing) where
   abbrev pub Still : Plan → Type 0

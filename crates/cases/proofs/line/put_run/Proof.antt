@@ -64,7 +64,7 @@ put-labelled-requires c κs =
     let h = answer-fits _ _ _ (ran-before (c .before .before .before) .run .ensures .0) in
     let l = length-take-le (ran-before (c .before .before .before) .run .result .length) (ran-before (c .before .before .before) .run .last .1 .1 .1 .1 .0) h in
     let k = length-take-le (c .before .before .before .in-use .result) (ran-before (c .before .before .before) .run .last .1 .1 .1 .1 .1 .1 .1 .0) (c .before .before .before .in-use .ensures .1) in
-    record { room = omega arith; label = omega arith; response = omega arith; journal = omega arith }
+    record { room = omega arith; labelShort = omega arith; responseShort = omega arith; journalShort = omega arith }
 
 same-length : tie.Need-same-length
 same-length c = search needs
