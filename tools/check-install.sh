@@ -7,10 +7,10 @@ need pkg-config pkg-config
 need_compiler "${compiler[@]}"
 room=$(mktemp -d)
 trap 'rm -rf "$room"' EXIT
-DESTDIR=$room "$root"/tools/install.sh /opt/rfm
+DESTDIR=$room "$root"/tools/install.sh /usr/local/rfm
 cp "$root"/examples/*.[ch] "$room"
 cd "$room"
-export PKG_CONFIG_LIBDIR=$room/opt/rfm/lib/pkgconfig PKG_CONFIG_SYSROOT_DIR=$room
+export PKG_CONFIG_LIBDIR=$room/usr/local/rfm/lib/pkgconfig PKG_CONFIG_SYSROOT_DIR=$room
 read -ra words <<< "$(pkg-config --cflags --libs rfm)"
 "${compiler[0]}" -static -o fleet fleet.c "${words[@]}"
 run ./fleet | diff "$root"/examples/fleet.expected -
