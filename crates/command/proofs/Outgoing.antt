@@ -7,11 +7,12 @@ use lib.ListN.{length}
 use lib.Seq.{length-take-le}
 use Rattle.octets.specs.Bytes.{overwrite}
 use Rattle.octets.proofs.Writes.{part-length}
+use Rattle.card.specs.Sound.{mostFileBytes}
 use Rattle.session.specs.Session.{mostWaiting}
 use Rattle.command.specs.declared.Outcome.{Outcome}
 use Rattle.command.specs.declared.Outcome.the-variants.{Well, FromFiles, FromWaiting, Error}
 use Rattle.command.specs.Outcomes.{dataOf, dataCount}
-use Rattle.command.specs.Promised.{mostData, OutcomeFits}
+use Rattle.command.specs.Promised.{OutcomeFits}
 
 pub data-length : (o : Outcome) (files waiting : List ℕ) → OutcomeFits (length files) o → length waiting ≡ mostWaiting → length (dataOf o files waiting) ≡ dataCount o
 unfolding dataOf OutcomeFits
@@ -20,7 +21,7 @@ data-length (FromFiles word place n) files waiting fits all = part-length files 
 data-length (FromWaiting word n) files waiting fits all = length-take-le n waiting (omega (arith, fits))
 data-length (Error k) files waiting fits all = refl
 
-pub data-few : (o : Outcome) (files : ℕ) → OutcomeFits files o → dataCount o ≤ mostData
+pub data-few : (o : Outcome) (files : ℕ) → OutcomeFits files o → dataCount o ≤ mostFileBytes
 unfolding OutcomeFits
 data-few (Well word) files fits = omega arith
 data-few (FromFiles word place n) files fits = fits .1

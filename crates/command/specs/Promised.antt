@@ -1,5 +1,6 @@
 -- What promises speak of besides the rules: numbers that are bytes, and where data lie.
 use Prim.Native.Nat.{ℕ, _+_, _≤_, _<_}
+use Rattle.card.specs.Sound.{mostFileBytes}
 use Rattle.session.specs.Session.{mostWaiting}
 use Rattle.command.specs.declared.Command.{Command}
 use Rattle.command.specs.declared.Outcome.{Outcome}
@@ -12,14 +13,10 @@ pub record OfBytes (c : Command) (lc : ℕ) : Type 0 where
   pub p3 : c .p3 < 256
   pub brief : lc < 256
 
--- the most data bytes that a command hands out
-abbrev pub mostData : ℕ
-mostData = 256
-
--- the data of an outcome, `mostData` bytes at most, lie in a file memory of `files` bytes, or they are waiting bytes, `mostWaiting`
--- at most
+-- the data of an outcome lie in a file memory of `files` bytes, and are no more than a file memory can have; or they are waiting bytes,
+-- `mostWaiting` at most
 unfoldable pub OutcomeFits : ℕ → Outcome → Type 0
 OutcomeFits files (Well word) = Unit
-OutcomeFits files (FromFiles word place n) = (place + n ≤ files) × (n ≤ mostData)
+OutcomeFits files (FromFiles word place n) = (place + n ≤ files) × (n ≤ mostFileBytes)
 OutcomeFits files (FromWaiting word n) = n ≤ mostWaiting
 OutcomeFits files (Error k) = Unit

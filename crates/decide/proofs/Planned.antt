@@ -65,36 +65,36 @@ module _ (format : Format) (domain : ℕ) (c : Command) («data» : List ℕ) (s
     unfolding fails situation fileAt
     named y z = named-there c (s .«record_number») r y z (p .«record»)
 
-    by-read : c .instruction ≡ ins.readBinary → Fit card (s .root) c (readBinary format c s (fileAt card (s .file)))
+    by-read : c .instruction ≡ ins.readBinary → Fit format card (s .root) c (readBinary format c s (fileAt card (s .file)))
     unfolding fails situation fileAt
-    by-read e = fit-read card sound c s good some-file format (offset-read (c .instruction) r (offsetOf c) e (p .offset))
+    by-read e = fit-read format card sound c s good some-file (offset-read (c .instruction) r (offsetOf c) e (p .offset))
 
-    by-update : c .instruction ≡ ins.updateBinary → length «data» ≤ 255 → Fit card (s .root) c (updateBinary c «data» s (fileAt card (s .file)))
+    by-update : c .instruction ≡ ins.updateBinary → length «data» ≤ 255 → Fit format card (s .root) c (updateBinary c «data» s (fileAt card (s .file)))
     unfolding fails situation fileAt
     by-update e brief =
-        fit-update card sound c s good some-file «data» (data-some c (length «data») (rw e) (p .case)) brief
+        fit-update format card sound c s good some-file «data» (data-some c (length «data») (rw e) (p .case)) brief
         (length-binary (c .instruction) r (offsetOf c) (c .p3) (length «data») (not-false _ (p .length)) e)
 
-    by-record : c .instruction ≡ ins.readRecord → Fit card (s .root) c (readRecord c s (fileAt card (s .file)))
-    by-record e = fit-record card sound c s good some-file (has-records (rw e)) (named (rw e) (rw e) .1)
+    by-record : c .instruction ≡ ins.readRecord → Fit format card (s .root) c (readRecord c s (fileAt card (s .file)))
+    by-record e = fit-record format card sound c s good some-file (has-records (rw e)) (named (rw e) (rw e) .1)
 
-    by-rewrite : c .instruction ≡ ins.updateRecord → Fit card (s .root) c (updateRecord c «data» s (fileAt card (s .file)))
+    by-rewrite : c .instruction ≡ ins.updateRecord → Fit format card (s .root) c (updateRecord c «data» s (fileAt card (s .file)))
     unfolding fails situation fileAt
     by-rewrite e =
-        fit-rewrite card sound c s good some-file (has-records (rw e)) «data»
+        fit-rewrite format card sound c s good some-file (has-records (rw e)) «data»
         (length-record (c .instruction) r (offsetOf c) (c .p3) (length «data») (not-false _ (p .length)) e)
         (λ n. named (rw e) (rw (e, n)) .1)
 
-    by-search : c .instruction ≡ ins.search → Fit card (s .root) c (search format c «data» s (fileAt card (s .file)))
+    by-search : c .instruction ≡ ins.search → Fit format card (s .root) c (search format c «data» s (fileAt card (s .file)))
     by-search e =
         let n = named (rw e) (rw e) in
-        fit-search card sound c s good some-file (has-records (rw e)) format «data» (n .0) (n .1)
+        fit-search format card sound c s good some-file (has-records (rw e)) «data» (n .0) (n .1)
 
-    by-increase : c .instruction ≡ ins.increase → Fit card (s .root) c (increase format «data» s (fileAt card (s .file)))
+    by-increase : c .instruction ≡ ins.increase → Fit format card (s .root) c (increase format «data» s (fileAt card (s .file)))
     unfolding fails situation fileAt
     by-increase e =
         let k = kind-increased (c .instruction) r e (not-false _ (p .kind)) in
-        fit-increase card sound c s good some-file (cyclic-records r (k .0)) format «data» (k .0) (k .1)
+        fit-increase format card sound c s good some-file (cyclic-records r (k .0)) «data» (k .0) (k .1)
         (length-increased (c .instruction) r (offsetOf c) (c .p3) (length «data») (not-false _ (p .length)) e)
 
   abbrev w : Situation
@@ -105,21 +105,21 @@ module _ (format : Format) (domain : ℕ) (c : Command) («data» : List ℕ) (s
     checked : {x : ℕ} → c .instruction ≡ x → eqb x ins.select ≡ false → eqb x ins.getResponse ≡ false → Passes w
     checked e a b = passed w (c .instruction) (rw e a) (rw e b) h
 
-    fit-done : Fit card (s .root) c (doneBy (c .instruction) w)
+    fit-done : Fit format card (s .root) c (doneBy (c .instruction) w)
     unfolding situation
     fit-done =
-        by-instruction (Fit card (s .root) c) w (c .instruction)
-        (λ e. fit-select card sound c s good format (c .p1) (c .p2) «data» _ refl)
+        by-instruction (Fit format card (s .root) c) w (c .instruction)
+        (λ e. fit-select format card sound c s good (c .p1) (c .p2) «data» _ refl)
         (λ e. by-read (checked e refl refl) e)
         (λ e. by-update (checked e refl refl) e brief)
         (λ e. by-record (checked e refl refl) e)
         (λ e. by-rewrite (checked e refl refl) e)
         (λ e. by-search (checked e refl refl) e)
         (λ e. by-increase (checked e refl refl) e)
-        (λ e. fit-switch card sound c s good (some-file (checked e refl refl)) deactivated refl)
-        (λ e. fit-switch card sound c s good (some-file (checked e refl refl)) activated refl)
-        (λ last. fit-response card c s good (response-waits w last h))
+        (λ e. fit-switch format card sound c s good (some-file (checked e refl refl)) deactivated refl)
+        (λ e. fit-switch format card sound c s good (some-file (checked e refl refl)) activated refl)
+        (λ last. fit-response card c s good format (response-waits w last h))
 
-  pub planned-fit : length «data» ≤ 255 → Fit card (s .root) c (planned w)
+  pub planned-fit : length «data» ≤ 255 → Fit format card (s .root) c (planned w)
   unfolding situation
-  planned-fit brief = of-planned (Fit card (s .root) c) w (fit-failed card c s good) (fit-done brief)
+  planned-fit brief = of-planned (Fit format card (s .root) c) w (fit-failed card c s good format) (fit-done brief)

@@ -1,6 +1,6 @@
 -- The answer to an accepted run finds room in its response memory, so a run of a script of bytes keeps that memory's length.
--- Number 4 sees to 1,024 bytes of room. A compact answer has three bytes and at most 256 data bytes. An expanded one has at most ten
--- bytes besides its R-APDUs, and these at most 1,004: the 1,000-byte rule holds for those kept while the script goes on, and what
+-- Number 4 sees to room for the longest answer of each format (`compact-longest`, `expanded-longest`). A compact answer has three bytes
+-- and no more data than P3 00 reads. An expanded one has at most ten bytes besides its R-APDUs, and these at most 1,004: the 1,000-byte rule holds for those kept while the script goes on, and what
 -- stands last has no data (`step-told`). That is carried through the pieces of a template by induction on the rounds. Assumes nothing.
 use Prim.Native.Nat.{ℕ, zero, suc, _+_, _≤_}
 use mathlib.Core.Path.{_≡_, refl, ap, subst, _∙_}
@@ -25,7 +25,8 @@ use Rattle.command.specs.declared.Format.{Format}
 use Rattle.command.specs.declared.Format.the-variants.{Compact, Expanded}
 use Rattle.command.specs.declared.Reading.{Reading}
 use Rattle.command.specs.Outcomes.{wordOf, dataOf, dataCount, goesOn}
-use Rattle.command.proofs.Outgoing.{data-length, data-few}
+use Rattle.command.proofs.Outgoing.{data-length}
+use Rattle.plan.specs.Plans.{mostRead}
 use Rattle.step.specs.Limits.{rapduSize, mostKept}
 use Rattle.step.specs.Steps.{State, started, stepped, commanded}
 use Rattle.step.proofs.Keeps.{starts-holds}
@@ -41,6 +42,7 @@ use Rattle.expanded.proofs.Runs.{part-small, brief, on-item, Kept, script-capdu
 use Rattle.expanded.proofs.Written.{rapdu-length, answer-few}
 use Rattle.engine.specs.Numbers.{Arguments, formatOf, firstGiven, runRefusals, leastResponse}
 use Rattle.engine.specs.Calls.{Result, accepted, unlessRefused, runScript, run}
+use Rattle.engine.proofs.Ended.{compact-longest, expanded-longest}
 use Rattle.engine.proofs.Accepted.{marked-starts, may-start}
 use Rattle.demands.proofs.Errors.{answered-state}
 
@@ -102,36 +104,36 @@ module _ (script : List ℕ) (small : AllBytes script) (application domain : ℕ
   abbrev ended : Bool → ℕ → ℕ → Progress
   ended definite at end = runFrom (length script) script domain definite at end (begun application card)
 
-  value-few : (definite : Bool) (at end : ℕ) → let p = ended definite at end in length (expanded.answerBytes definite (p .state .step .count) (p .kept ++ p .last)) ≤ 1024
+  value-few : (definite : Bool) (at end : ℕ) → let p = ended definite at end in length (expanded.answerBytes definite (p .state .step .count) (p .kept ++ p .last)) ≤ expanded.roomToAnswer
   unfolding begun started
   value-few definite at end =
       let p = ended definite at end in
       let room = run-room script small (takenBack card) domain definite (length script) at end (begun application card) (starts-holds card application starts) (omega arith) (omega arith) in
       omega (arith, room, answer-few definite (p .state .step .count) (p .kept ++ p .last), length-append (p .kept) (p .last))
 
-  expanded-few : (template : Template) → length (expanded.answer template (expanded.run template script application domain card)) ≤ 1024
+  expanded-few : (template : Template) → length (expanded.answer template (expanded.run template script application domain card)) ≤ expanded.roomToAnswer
   unfolding expanded.answer expanded.run
   expanded-few (Definite at end) = value-few true at end
   expanded-few (Indefinite at end) = value-few false at end
   expanded-few Missing = omega arith
 
-  compact-few : let st = compact.run script application domain card in length (compact.answer (st .step) (st .card .files)) ≤ 1024
+  compact-few : let st = compact.run script application domain card in length (compact.answer (st .step) (st .card .files)) ≤ 3 + mostRead Compact
   compact-few =
       let st = compact.run script application domain card in
       let holds = starts-holds card application starts in
-      let fits = outcome-inside script small (takenBack card) application domain card holds in
+      let inside = outcome-inside script small (takenBack card) application domain card holds in
       let all = compact-runs.run-keeps script small (takenBack card) application domain card holds .waiting in
-      omega (arith, answer-length (st .step) (st .card .files) fits all, data-few (st .step .outcome) (length (st .card .files)) fits)
+      omega (arith, answer-length (st .step) (st .card .files) (inside .fits) all, inside .few)
 
 -- ---- a run
 
 script-keeps : (f : Format) (a : Arguments) (card : Card) → AllBytes (a .script) → Starts card (a .application) → leastResponse f ≤ length (a .response)
     → length (runScript f a card .response) ≡ length (a .response)
-unfolding runScript accepted leastResponse
+unfolding runScript accepted
 script-keeps Compact a card small starts long =
-    write-length (a .response) 0 _ (omega (arith, compact-few (a .script) small (a .application) (a .domain) card starts))
+    write-length (a .response) 0 _ (omega (arith, compact-few (a .script) small (a .application) (a .domain) card starts, long, compact-longest))
 script-keeps Expanded a card small starts long =
-    write-length (a .response) 0 _ (omega (arith, expanded-few (a .script) small (a .application) (a .domain) card starts (templateOf (a .script))))
+    write-length (a .response) 0 _ (omega (arith, expanded-few (a .script) small (a .application) (a .domain) card starts (templateOf (a .script)), long, expanded-longest))
 
 pub memory-kept : (a : Arguments) (c : Card) → AllBytes (a .script) → length (run a c .response) ≡ length (a .response)
 unfolding run unlessRefused

@@ -1,6 +1,7 @@
 -- What a script comes to at its end: its answer has room, and with it the result is the definition's.
 -- The code's last step and memories are, by the contract of the run, the state that the definition ends in; so what is proved of that
--- state holds of them. Compact: the data of the outcome lie in the memories (`outcome-inside`) and are few, and the count is a byte
+-- state holds of them. Compact: the data of the outcome lie in the memories (`outcome-inside`) and are no more than the room that number
+-- 4 sees to (`compact-longest`), and the count is a byte
 -- (`count-byte`). Expanded: the answer has at most ten bytes besides the R-APDUs (`answer-few`); kept bytes and last bytes stand one
 -- after the other in the buffer, so one first part of it is both (`take-add`). With the answer written as promised the result is the
 -- definition's (`compact-gives`, `value-gives`). Assumes nothing.
@@ -23,12 +24,13 @@ use Rattle.command.specs.declared.Format.the-variants.{Compact, Expanded}
 use Rattle.command.specs.declared.Step.{Step}
 use Rattle.command.specs.Outcomes.{dataCount}
 use Rattle.command.specs.Promised.{OutcomeFits}
+use Rattle.plan.specs.Plans.{mostRead}
 use Rattle.step.specs.Steps.{State, stateOf}
 use Rattle.step.proofs.Keeps.{starts-holds}
 use Rattle.command.proofs.Outgoing.{data-few}
 use Rattle.compact.specs.Compact as compact
 use Rattle.compact.proofs.Runs.{run-keeps}
-use Rattle.compact.proofs.Fits.{outcome-inside}
+use Rattle.compact.proofs.Fits.{Inside, outcome-inside}
 use Rattle.compact.proofs.Answered.{answer-length}
 use Rattle.compact.proofs.Counts.{count-byte}
 use Rattle.expanded.specs.declared.run.Gathered.{Gathered}
@@ -39,7 +41,6 @@ use Rattle.step.specs.Limits.{longestScript}
 use Rattle.engine.specs.Numbers.{Arguments, leastResponse}
 use Rattle.engine.specs.Calls.{Result, gives, accepted, runValue, runScript}
 use Rattle.engine.specs.Promised.{AnswerFits}
-use Rattle.engine.proofs.RunNumbers.{least-response}
 
 -- the card with the journal that has the mark
 pub with-mark : (c : Card) {j : List ℕ} → j ≡ marked (c .journal) → lent (c .table) (c .files) j ≡ withMark c
@@ -49,20 +50,25 @@ with-mark c e = ap (λ (j : List ℕ). lent (c .table) (c .files) j) e
 pub begins : (c : Card) {j : List ℕ} → j ≡ marked (c .journal) → {application : ℕ} → Starts (withMark c) application → Starts (lent (c .table) (c .files) j) application
 begins c e {application} h = subst (λ (k : Card). Starts k application) (sym (with-mark c e)) h
 
+-- number 4 sees to room for the longest answer of each format
+pub compact-longest : 3 + mostRead Compact ≤ leastResponse Compact
+unfolding mostRead leastResponse
+compact-longest = omega arith
+
+pub expanded-longest : expanded.roomToAnswer ≤ leastResponse Expanded
+unfolding leastResponse
+expanded-longest = omega arith
+
 -- a compact script: its answer has room
 pub compact-room : (script : List ℕ) → AllBytes script → {application : ℕ} (domain : ℕ) {card : Card} → Starts card application → length script ≤ longestScript
     → {step : Step} {after : Card} → stateOf step after ≡ compact.run script application domain card
     → {response : ℕ} → leastResponse Compact ≤ response → OutcomeFits (length (after .files)) (step .outcome) × (step .count < 256) × (3 + dataCount (step .outcome) ≤ response)
 compact-room script small {application} domain {card} starts short {step} {after} e long =
     let holds = starts-holds card application starts in
-    let fits : OutcomeFits (length (after .files)) (step .outcome) =
-    subst (λ (st : State). OutcomeFits (length (st .card .files)) (st .step .outcome)) (sym e) (outcome-inside script small (takenBack card) application domain card holds)
-    in
-    let few = data-few (step .outcome) (length (after .files)) fits in
-    let most = rw (least-response Compact) at long in (
-      fits,
+    let inside = subst Inside (sym e) (outcome-inside script small (takenBack card) application domain card holds) in (
+      inside .fits,
       subst (λ (st : State). st .step .count < 256) (sym e) (count-byte script application domain card short),
-      omega arith,
+      omega (arith, inside .few, long, compact-longest),
     )
 
 -- all its waiting bytes are there at its end

@@ -10,8 +10,6 @@ use Rattle.octets.specs.Choice.{pick}
 use Rattle.octets.proofs.Picks.{on-pick}
 use Rattle.card.specs.Row.{Card}
 use Rattle.journal.specs.Sound.{markFits, soundCard}
-use Rattle.command.specs.declared.Format.{Format}
-use Rattle.command.specs.declared.Format.the-variants.{Compact, Expanded}
 use Rattle.engine.specs.Numbers.{Arguments, formatOf, argumentsFit, scriptFits, leastResponse, templateFits, firstGiven, notSound, runRefusals}
 
 -- the first of a run's numbers, by what they test
@@ -53,12 +51,6 @@ met true true true true m t long least e = (refl, refl, refl, ltb-true long leas
 met true true true false false t long least e = (refl, refl, refl, ltb-false long least e, refl)
 met true true true false true false long least e = (refl, refl, refl, ltb-false long least e, refl, refl)
 met true true true false true true long least e = (refl, refl, refl, ltb-false long least e, refl, refl)
-
--- the response memory of either format
-pub least-response : (f : Format) → leastResponse f ≡ 1024
-unfolding leastResponse
-least-response Compact = refl
-least-response Expanded = refl
 
 -- the same of a run's own tests
 module _ (c : Card) (a : Arguments) where

@@ -43,11 +43,11 @@ module _ (format : Format) (domain : ℕ) (c : Command) («data» : List ℕ) (s
   abbrev plan : Plan
   plan = planned (situation format domain c «data» s card)
 
-  pub limited-fit : (kept : ℕ) (counts : Bool) → Fit card (s .root) c (limited kept counts s plan)
+  pub limited-fit : (kept : ℕ) (counts : Bool) → Fit format card (s .root) c (limited kept counts s plan)
   unfolding limited
   limited-fit kept counts =
-      on-pick (Fit card (s .root) c) _ _ _
-      (λ y. fit-failed card c s good AnswerTooLong)
+      on-pick (Fit format card (s .root) c) _ _ _
+      (λ y. fit-failed card c s good format AnswerTooLong)
       (λ n. planned-fit format domain c «data» s card sound good brief)
 
   pub planned-stops : goesOn (wordOf (plan .outcome)) ≡ not (isError (plan .outcome))
@@ -97,10 +97,10 @@ module _ (root : ℕ) (before : Card) (st : State) (h : Apart root before st) (s
   abbrev card : Card
   card = st .card
 
-  pub plan-apart : {c : Command} (p : Plan) → Fit card (st .step .session .standing .root) c p → Apart root before (stepped st (carriedOut p (st .step .session .waiting) card))
+  pub plan-apart : {format : Format} {c : Command} (p : Plan) → Fit format card (st .step .session .standing .root) c p → Apart root before (stepped st (carriedOut p (st .step .session .waiting) card))
   unfolding stepped carriedOut
-  plan-apart {c} p fits =
-      let fit = subst (λ (k : ℕ). Fit card k c p) (h .stays) fits in
+  plan-apart {format} {c} p fits =
+      let fit = subst (λ (k : ℕ). Fit format card k c p) (h .stays) fits in
       let after = perform-alike (p .writes) card sound (fit .forms) .rows in
       let t = before .table in
       record {

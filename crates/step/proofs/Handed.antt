@@ -1,5 +1,5 @@
--- The data that a command hands out: they lie in the file memory after it, whose length it keeps, or in the waiting bytes; and only a
--- command of case 2 or 4 has any.
+-- The data that a command hands out: they lie in the file memory after it, whose length it keeps, or in the waiting bytes; they are no more
+-- than P3 00 reads in its format; and only a command of case 2 or 4 has any.
 -- The plan fits the card (`planned-fit`): its writes lie in their memories, and such a write keeps every length (`perform-lengths`),
 -- so an outcome that fits the file memory before the command fits the one after it. That commands of other cases have no data goes by
 -- the plan: a command that fails a check has none; one that passes all has the case of its instruction, and `bare-by` goes through the
@@ -33,7 +33,7 @@ use Rattle.command.specs.Instructions.{isKnown, noData, caseOf}
 use Rattle.command.specs.Outcomes.{dataCount}
 use Rattle.command.specs.Promised.{OutcomeFits}
 use Rattle.plan.specs.Ends.{Plan, failed, done}
-use Rattle.plan.specs.Plans.{Situation, selectEntry, select, updateBinary, updateRecord, switch, doneBy}
+use Rattle.plan.specs.Plans.{mostRead, Situation, selectEntry, select, updateBinary, updateRecord, switch, doneBy}
 use Rattle.decide.specs.Order.{formalChecks, order}
 use Rattle.decide.specs.Fails.{fails}
 use Rattle.decide.specs.Decisions.{situation, planned}
@@ -55,7 +55,7 @@ module _ (s : Standing) (card : Card) (sound : soundCard card ≡ true) (good : 
   abbrev plan : Plan
   plan = planned (situation format domain c «data» s card)
 
-  fit : Fit card (s .root) c plan
+  fit : Fit format card (s .root) c plan
   fit = planned-fit format domain c «data» s card (card-table card sound) good brief
 
   pub files-kept : (waiting : List ℕ) → length (carriedOut plan waiting card .card .files) ≡ length (card .files)
@@ -64,6 +64,9 @@ module _ (s : Standing) (card : Card) (sound : soundCard card ≡ true) (good : 
 
   pub outcome-fits : c .p3 < 256 → (waiting : List ℕ) → OutcomeFits (length (carriedOut plan waiting card .card .files)) (plan .outcome)
   outcome-fits p3 waiting = rw (files-kept waiting) (fit .outcome p3)
+
+  pub outcome-few : c .p3 < 256 → dataCount (plan .outcome) ≤ mostRead format
+  outcome-few = fit .few
 
 -- the cases of a command that may hand out data
 abbrev handsOut : ℕ → Bool

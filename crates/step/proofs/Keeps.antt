@@ -65,7 +65,7 @@ module _ (before : Card) (s : Session) (card : Card) (h : Holds before s card) w
       let m : Moved = carriedOut p (s .waiting) card in
       Holds before (m .session) (m .card)
 
-  plan-holds : {root : ℕ} {c : Command} (p : Plan) → Fit card root c p → HasRoom (card .journal) (cost (p .writes)) → Carries p
+  plan-holds : {format : Format} {root : ℕ} {c : Command} (p : Plan) → Fit format card root c p → HasRoom (card .journal) (cost (p .writes)) → Carries p
   unfolding carriedOut
   plan-holds p fit left =
       let ok = sound-writable card (h .sound) in

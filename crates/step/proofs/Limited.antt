@@ -10,6 +10,7 @@ use borrow.Author.Tests.{le-ltb}
 use Rattle.octets.specs.Choice.{pick}
 use Rattle.octets.proofs.Picks.{pick-true, pick-false}
 use Rattle.card.specs.Row.{Card}
+use Rattle.card.specs.Sound.{mostFileBytes}
 use Rattle.journal.specs.Promised.{HasRoom}
 use Rattle.journal.specs.Changes.{cost}
 use Rattle.journal.proofs.Parts.{card-table}
@@ -18,7 +19,6 @@ use Rattle.command.specs.declared.Format.{Format}
 use Rattle.command.specs.declared.Command.{Command}
 use Rattle.plan.specs.Ends.{Plan, failed}
 use Rattle.command.specs.declared.checks.Check.the-variants.{AnswerTooLong}
-use Rattle.command.specs.Promised.{mostData}
 use Rattle.command.specs.Outcomes.{dataCount}
 use Rattle.decide.specs.Decisions.{situation, planned}
 use Rattle.decide.proofs.Planned.{planned-fit}
@@ -68,10 +68,10 @@ module _ (kept : ℕ) (counts : Bool) (s : Standing) (few : kept ≤ mostKept) w
     pub within : passes kept counts (dataCount (d .outcome)) ≡ false → Decided card «data» bytes (limited kept counts s plan) d
     within test = subst (λ (p : Plan). Decided card «data» bytes p d) (sym (by-passing counts plan ∙ pick-false _ _ _ (same-test ∙ test))) told
 
--- what is decided of a command has `mostData` data bytes at most
-pub decided-few : (format : Format) (domain : ℕ) (c : Command) («data» : List ℕ) (s : Standing) (card : Card) → DecideAsks card s c (length «data») → (bytes : List ℕ) (d : Decision) → Decided card «data» bytes (planned (situation format domain c «data» s card)) d → dataCount (d .outcome) ≤ mostData
+-- what is decided of a command has no more data bytes than a file memory can have
+pub decided-few : (format : Format) (domain : ℕ) (c : Command) («data» : List ℕ) (s : Standing) (card : Card) → DecideAsks card s c (length «data») → (bytes : List ℕ) (d : Decision) → Decided card «data» bytes (planned (situation format domain c «data» s card)) d → dataCount (d .outcome) ≤ mostFileBytes
 unfolding planOf
 decided-few format domain c «data» s card h bytes d told =
     let brief = h .bytes .brief in
-    subst (λ (p : Plan). dataCount (p .outcome) ≤ mostData) (sym (told .same))
+    subst (λ (p : Plan). dataCount (p .outcome) ≤ mostFileBytes) (sym (told .same))
     (data-few _ _ (planned-fit format domain c «data» s card (card-table card (h .sound)) (h .good) (omega arith) .outcome (h .bytes .p3)))

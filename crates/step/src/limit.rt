@@ -9,8 +9,8 @@ ghost use mathlib.Core.Path.{_≡_};
 ghost use mathlib.Core.List.{List};
 ghost use Prim.Native.Nat.{ℕ, _+_, _≤_, _<_};
 ghost use Rattle.card.specs.Row.{Card};
+ghost use Rattle.card.specs.Sound.{mostFileBytes};
 ghost use Rattle.plan.specs.Ends.{Plan};
-ghost use Rattle.command.specs.Promised.{mostData};
 ghost use Rattle.command.specs.Outcomes.{dataCount};
 ghost use Rattle.step.specs.Limits as spec;
 ghost use Rattle.decide.specs.Promised.{Decided};
@@ -28,7 +28,7 @@ fn rapdu_size(n: usize) -> usize
 // Returns what was decided, held to the 1,000 bytes: a decision whose R-APDU counts, and would pass them after the `kept` bytes, becomes
 // a failure that changes nothing.
 pub fn limited(d: Decision, s: Standing, kept: usize, counts: bool) -> Decision
-    requires { ⌜ (kept ≤ spec.mostKept) × (dataCount (d .outcome) ≤ mostData) ⌝ }
+    requires { ⌜ (kept ≤ spec.mostKept) × (dataCount (d .outcome) ≤ mostFileBytes) ⌝ }
     ensures { λ r. ⌜ ((card : Card) («data» bytes : List ℕ) (plan : Plan) → Decided card «data» bytes plan d → Decided card «data» bytes (spec.limited kept counts s plan) r) ⌝ }
 {
     if counts {

@@ -1,7 +1,7 @@
 -- `engine::scripts::run_value` meets its contract: with its mark the card is one that a script starts from.
 -- The contract asks for a card that a script can start from once it has the mark, and the mark that is set makes the lent memories
 -- that card (`begins`), so the items may be run. The run promises that the gathered bytes fit the buffer of 1,004, and a count of at
--- most 1,024: with the 1,024 bytes of response memory that is what `put_answer` asks. What the run and the answer promise together is
+-- most 1,024: with the response memory that number 4 sees to that is what `put_answer` asks. What the run and the answer promise together is
 -- the definition's result on the card with its mark (`value-gives`, `with-mark`). The points of the walk, each from the one after it:
 -- `ran`, `marked`, `start`. Assumes nothing.
 use mathlib.Core.Path.{sym, ap, _∙_}
@@ -13,8 +13,7 @@ use borrow.Author.Needs.{needs}
 use Rattle.card.specs.Row.{Card, lent}
 use Rattle.command.specs.declared.Format.the-variants.{Expanded}
 use Rattle.engine.specs.Calls.{runValue}
-use Rattle.engine.proofs.RunNumbers.{least-response}
-use Rattle.engine.proofs.Ended.{with-mark, begins, expanded-small, value-gives}
+use Rattle.engine.proofs.Ended.{with-mark, begins, expanded-longest, expanded-small, value-gives}
 use Rattle.engine.proofs.scripts.run_value.Statement.{statement}
 use Rattle.engine.proofs.scripts.run_value.Tie as tie
 
@@ -71,8 +70,8 @@ put-answer-requires c κs =
     let at-run = ran c in
     let s = start (marked (at-run .before .before .before .before)) in
     let r = at-run .run in
-    let long = rw (least-response Expanded) at (s .pre .2 .responseLong) in (
-      omega (arith, long),
+    let long = s .pre .2 .responseLong in (
+      omega (arith, long, expanded-longest),
       rw length-take (omega (arith, r .ensures .1)),
       r .ensures .2,
     )
