@@ -6,6 +6,7 @@ use native.Mathlib.Nat.{zero-min, min-zero, suc-min-suc}
 use lib.ListN.{length, take}
 use Rattle.octets.specs.Bytes.{overwrite, zeros}
 use Rattle.journal.specs.Entries.{usedBytes}
+use Rattle.journal.specs.Sound.{journalLength}
 use Rattle.engine.specs.Calls.{Result}
 use Rattle.engine.specs.Worked.{answerOf}
 use Rattle.lines.specs.Digits.{decoded}
@@ -25,6 +26,6 @@ run-line label r s k e held =
     ∙ ap (runLine label) e
 
 -- the line of a case
-pub case-line : (label : List ℕ) (application domain format : ℕ) (journal script j s : List ℕ) → j ≡ overwrite (zeros 2048) 0 (decoded journal) → s ≡ decoded script → runLine label (ranOn application domain format j s) ≡ caseLine label application domain format journal script
+pub case-line : (label : List ℕ) (application domain format : ℕ) (journal script j s : List ℕ) → j ≡ overwrite (zeros journalLength) 0 (decoded journal) → s ≡ decoded script → runLine label (ranOn application domain format j s) ≡ caseLine label application domain format journal script
 unfolding caseLine
 case-line label application domain format journal script j s e f = λ i. runLine label (ranOn application domain format (e i) (f i))

@@ -12,6 +12,8 @@ use lib.Seq.{length-take-le}
 use borrow.Author.Tests.{leb-true, le-leb}
 use Rattle.octets.specs.Choice.{pick}
 use Rattle.octets.specs.Bytes.{part}
+use Rattle.journal.specs.Sound.{journalLength}
+use Rattle.step.specs.Limits.{longestScript}
 use Rattle.octets.proofs.Picks.{and-left, and-right, lt-yes, lt-no}
 use Rattle.lines.specs.Digits.{allHex, decoded}
 use Rattle.lines.proofs.Hex.{script-hex, bytes-length}
@@ -62,23 +64,23 @@ module _ (label journal script : List ℕ) (shape : isCase label journal script 
   unfolding isCase
   label-short = leb-true (length label) 64 (and-left _ _ shape)
 
-  both : (hexBytes 2048 journal && hexBytes 1024 script) ≡ true
+  both : (hexBytes journalLength journal && hexBytes longestScript script) ≡ true
   unfolding isCase
   both = and-right (leb (length label) 64) _ shape
 
-  pub journal-digits : hexBytes 2048 journal ≡ true
+  pub journal-digits : hexBytes journalLength journal ≡ true
   journal-digits = and-left _ _ both
 
-  pub script-digits : hexBytes 1024 script ≡ true
-  script-digits = and-right (hexBytes 2048 journal) _ both
+  pub script-digits : hexBytes longestScript script ≡ true
+  script-digits = and-right (hexBytes journalLength journal) _ both
 
 -- the case of a line has that shape
 module _ (line : List ℕ) (c : Case) (fits : CaseFits line c) where
-  pub journal-lies : (c .journal ≤ c .«journal_end») × (c .«journal_end» ≤ length line) × (hexBytes 2048 (journalOf line c) ≡ true)
+  pub journal-lies : (c .journal ≤ c .«journal_end») × (c .«journal_end» ≤ length line) × (hexBytes journalLength (journalOf line c) ≡ true)
   unfolding DigitsFit
   journal-lies = fits .journal
 
-  pub script-lies : (c .script ≤ c .«script_end») × (c .«script_end» ≤ length line) × (hexBytes 1024 (scriptOf line c) ≡ true)
+  pub script-lies : (c .script ≤ c .«script_end») × (c .«script_end» ≤ length line) × (hexBytes longestScript (scriptOf line c) ≡ true)
   unfolding DigitsFit
   script-lies = fits .script
 

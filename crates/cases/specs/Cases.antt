@@ -9,9 +9,11 @@ use lib.ListN.{length, take}
 use Rattle.octets.specs.Choice.{pick}
 use Rattle.octets.specs.Bytes.{part, overwrite, zeros}
 use Rattle.journal.specs.Entries.{usedBytes}
+use Rattle.journal.specs.Sound.{journalLength}
 use Rattle.journal.specs.Changes.{withJournal}
+use Rattle.step.specs.Limits.{longestScript}
 use Rattle.engine.specs.Calls.{Result, run}
-use Rattle.engine.specs.Worked.{worked, answerOf}
+use Rattle.engine.specs.Worked.{worked, lentResponse, answerOf}
 use Rattle.lines.specs.Digits.{ascii, isScript, decoded, hexOf, decimal}
 use Rattle.lines.specs.Named.{lineFeed, space, named}
 use Rattle.lines.specs.declared.values.Value.{Value}
@@ -56,8 +58,8 @@ caseBehind line label =
     then asked.Bad (numberAt line label (ascii ": application=") space 10 1 3) λ application second.
     then asked.Bad (numberAt line second (ascii "domain=") space 16 2 2) λ domain third.
     then asked.Bad (numberAt line third (ascii "format=") space 10 1 1) λ format fourth.
-    thenDigits (digitsAt line fourth (ascii "journal=") 2048) λ journal journalEnd.
-    thenDigits (digitsAt line journalEnd (ascii " script=") 1024) λ script scriptEnd.
+    thenDigits (digitsAt line fourth (ascii "journal=") journalLength) λ journal journalEnd.
+    thenDigits (digitsAt line journalEnd (ascii " script=") longestScript) λ script scriptEnd.
     asked.Run
     (record {
       label = label;
@@ -90,8 +92,8 @@ scriptOf line c = part line (c .script) (c .«script_end» - c .script)
 pub record CaseFits (line : List ℕ) (c : Case) : Type 0 where
   pub label : c .label ≤ longestLabel
   pub labelled : c .label ≤ length line
-  pub journal : DigitsFit line 2048 (value.At (c .journal) (c .«journal_end»))
-  pub script : DigitsFit line 1024 (value.At (c .script) (c .«script_end»))
+  pub journal : DigitsFit line journalLength (value.At (c .journal) (c .«journal_end»))
+  pub script : DigitsFit line longestScript (value.At (c .script) (c .«script_end»))
 
 unfoldable pub AskedFits : List ℕ → Asked → Type 0
 AskedFits line (asked.Run c) = CaseFits line c
@@ -99,7 +101,7 @@ AskedFits line asked.Bad = Unit
 
 -- whether label, journal and script are short enough, and the last two of hex digits
 unfoldable pub isCase : List ℕ → List ℕ → List ℕ → Bool
-isCase label journal script = leb (length label) longestLabel && (hexBytes 2048 journal && hexBytes 1024 script)
+isCase label journal script = leb (length label) longestLabel && (hexBytes journalLength journal && hexBytes longestScript script)
 
 -- a run of a script on the worked card with another journal
 unfoldable pub ranOn : ℕ → ℕ → ℕ → List ℕ → List ℕ → Result
@@ -110,7 +112,7 @@ ranOn application domain format journal script =
       domain = domain;
       format = format;
       script = script;
-      response = zeros 1024;
+      response = zeros lentResponse;
     })
     (withJournal worked journal)
 
@@ -126,16 +128,17 @@ labelled label refusal executed response journal =
     ++ (named (ascii "executed=") (decimal executed) space
     ++ (named (ascii "response=") (hexOf response) space ++ named (ascii "journal=") (hexOf journal) lineFeed)))
 
--- the most that a line has: 64 bytes of label, 36 of names, 4 after the values, 20 digits of each number, and 2,048 and 4,096
+-- the most that a line has: 64 bytes of label, 36 of names, 4 after the values, 20 digits of each number, and two for each byte of
+-- answer and journal
 abbrev pub mostInLine : ℕ
-mostInLine = 6288
+mostInLine = 144 + 2 * (lentResponse + journalLength)
 
 -- what such a line asks: room for it, and parts that are no longer than they can be
 pub record PutLabelledAsks (out label response journal : List ℕ) : Type 0 where
   pub room : mostInLine ≤ length out
   pub labelShort : length label ≤ longestLabel
-  pub responseShort : length response ≤ 1024
-  pub journalShort : length journal ≤ 2048
+  pub responseShort : length response ≤ lentResponse
+  pub journalShort : length journal ≤ journalLength
 
 -- the line of a run
 unfoldable pub runLine : List ℕ → Result → List ℕ
@@ -145,7 +148,7 @@ runLine label r =
 -- the line of a case; the journal is zero after the bytes that are given
 unfoldable pub caseLine : List ℕ → ℕ → ℕ → ℕ → List ℕ → List ℕ → List ℕ
 caseLine label application domain format journal script =
-    runLine label (ranOn application domain format (overwrite (zeros 2048) 0 (decoded journal)) (decoded script))
+    runLine label (ranOn application domain format (overwrite (zeros journalLength) 0 (decoded journal)) (decoded script))
 
 -- what is printed of a line
 unfoldable pub printedOf : List ℕ → Asked → List ℕ

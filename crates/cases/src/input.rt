@@ -1,4 +1,6 @@
 // Reading the line of a case.
+use engine::LONGEST_SCRIPT;
+use journal::JOURNAL_LENGTH;
 use lines::digits::is_script;
 use lines::values::Field;
 use lines::values::Value;
@@ -8,6 +10,7 @@ use lines::values::value_end;
 ghost use mathlib.Core.Path.{_≡_};
 ghost use Prim.Native.Nat.{_≤_};
 ghost use lib.ListN.{length};
+ghost use Rattle.journal.specs.Sound.{journalLength};
 ghost use Rattle.cases.specs.Cases as spec;
 
 // A case: where its label ends, what a run is called with, and where the digits of the journal and of the script begin and end.
@@ -33,7 +36,7 @@ const LONGEST_LABEL: usize = 64;
 
 // Whether `digits` are the hex digits of at most `n` bytes.
 fn hex_bytes(n: usize, digits: &[u8]) -> bool
-    requires { ⌜ n ≤ 2048 ⌝ }
+    requires { ⌜ n ≤ journalLength ⌝ }
     ensures { λ b. ⌜ b ≡ spec.hexBytes n (now (digits .entry)) ⌝ }
 {
     (digits.len() <= 2 * n) & is_script(digits)
@@ -41,7 +44,7 @@ fn hex_bytes(n: usize, digits: &[u8]) -> bool
 
 // Returns where the hex digits of at most `n` bytes lie that stand at the place `at` behind their name; bad where they do not.
 fn digits_at(line: &[u8], at: usize, name: &[u8], n: usize) -> Value
-    requires { ⌜ (1 ≤ length (now name)) × (n ≤ 2048) ⌝ }
+    requires { ⌜ (1 ≤ length (now name)) × (n ≤ journalLength) ⌝ }
     ensures { λ r. ⌜ (r ≡ spec.digitsAt (now (line .entry)) at (now (name .entry)) n) × spec.DigitsFit (now (line .entry)) n r ⌝ }
 {
     let Value::At(from, to) = value_at(line, at, name, b' ') else {
@@ -78,10 +81,12 @@ pub fn case_of(line: &[u8]) -> Asked
     let Field::Value(format, fourth) = number_at(line, third, b"format=", b' ', 10, 1, 1) else {
         return Asked::Bad;
     };
-    let Value::At(journal, journal_end) = digits_at(line, fourth, b"journal=", 2048) else {
+    let Value::At(journal, journal_end) = digits_at(line, fourth, b"journal=", JOURNAL_LENGTH)
+    else {
         return Asked::Bad;
     };
-    let Value::At(script, script_end) = digits_at(line, journal_end, b" script=", 1024) else {
+    let Value::At(script, script_end) = digits_at(line, journal_end, b" script=", LONGEST_SCRIPT)
+    else {
         return Asked::Bad;
     };
     Asked::Run(Case {

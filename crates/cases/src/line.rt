@@ -1,9 +1,12 @@
 // The line that is printed of a case.
 use crate::input::Asked;
 use crate::input::case_of;
+use engine::LONGEST_SCRIPT;
+use journal::JOURNAL_LENGTH;
 use lines::digits::decode;
 use lines::put::put_bytes;
 use lines::put::put_number;
+use lines::worked::LENT_RESPONSE;
 use lines::worked::worked_files;
 use lines::worked::worked_table;
 ghost use mathlib.Core.Path.{_≡_};
@@ -12,6 +15,7 @@ ghost use Prim.Native.Nat.{_+_, _≤_, min};
 ghost use lib.ListN.{length};
 ghost use Rattle.octets.specs.Bytes.{overwrite};
 ghost use Rattle.journal.specs.Entries.{usedBytes};
+ghost use Rattle.journal.specs.Sound.{journalLength};
 ghost use Rattle.cases.specs.Cases as spec;
 
 // Puts a label and four values at the start of `out`. Returns how many bytes they have.
@@ -55,12 +59,12 @@ fn put_run(
     journal: &mut [u8],
     script: &[u8],
 ) -> usize
-    requires { ⌜ (spec.mostInLine ≤ length (now out)) × (length (now label) ≤ 64) × (length (now journal) ≡ 2048) ⌝ }
+    requires { ⌜ (spec.mostInLine ≤ length (now out)) × (length (now label) ≤ spec.longestLabel) × (length (now journal) ≡ journalLength) ⌝ }
     ensures { λ r. ⌜ (now (out .exit) ≡ overwrite (now (out .entry)) 0 (spec.runLine (now (label .entry)) (spec.ranOn application domain format (now (journal .entry)) (now (script .entry))))) × (r ≡ length (spec.runLine (now (label .entry)) (spec.ranOn application domain format (now (journal .entry)) (now (script .entry))))) × (r ≤ spec.mostInLine) ⌝ }
 {
     let mut table = worked_table();
     let mut files = worked_files();
-    let mut response = [0u8; 1024];
+    let mut response = [0u8; LENT_RESPONSE];
     let answer = engine::run(
         application,
         domain,
@@ -96,9 +100,9 @@ fn put_case(
     requires { ⌜ (spec.mostInLine ≤ length (now out)) × (spec.isCase (now label) (now journal) (now script) ≡ true) ⌝ }
     ensures { λ r. ⌜ (now (out .exit) ≡ overwrite (now (out .entry)) 0 (spec.caseLine (now (label .entry)) application domain format (now (journal .entry)) (now (script .entry)))) × (r ≡ length (spec.caseLine (now (label .entry)) application domain format (now (journal .entry)) (now (script .entry)))) × (r ≤ spec.mostInLine) ⌝ }
 {
-    let mut journal_bytes = [0u8; 2048];
+    let mut journal_bytes = [0u8; JOURNAL_LENGTH];
     decode(journal, &mut journal_bytes);
-    let mut script_bytes = [0u8; 1024];
+    let mut script_bytes = [0u8; LONGEST_SCRIPT];
     let n = decode(script, &mut script_bytes);
     put_run(
         out,

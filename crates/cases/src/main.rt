@@ -2,13 +2,15 @@
 mod input;
 mod line;
 
+use journal::JOURNAL_LENGTH;
 use lines::values::value_end;
+use lines::worked::LENT_RESPONSE;
 
 // The bytes that are read at most.
 const MOST_READ: usize = 32768;
 
 // The bytes that a printed line has at most.
-const MOST_IN_LINE: usize = 6288;
+const MOST_IN_LINE: usize = 144 + 2 * (LENT_RESPONSE + JOURNAL_LENGTH);
 
 // Prints what there is of a line; nothing where it is empty, or a note, which begins with #.
 fn show(line: &[u8]) {

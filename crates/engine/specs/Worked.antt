@@ -7,6 +7,7 @@ use lib.ListN.{take, replicate}
 use Rattle.octets.specs.Bytes.{zeros}
 use Rattle.card.specs.Row.{Card, rowOf}
 use Rattle.journal.specs.Entries.{usedBytes}
+use Rattle.journal.specs.Sound.{journalLength}
 use Rattle.engine.specs.Hex.{hex}
 use Rattle.engine.specs.Calls.{Result, run, takeBack}
 
@@ -28,13 +29,17 @@ worked =
     record {
       table = workedTable;
       files = replicate 29 0xFF ++ (zeros 9 ++ replicate 17 0xFF);
-      journal = zeros 2048;
+      journal = zeros journalLength;
     }
+
+-- how many bytes of response memory a run on the worked card is lent, here and by the programs
+abbrev pub lentResponse : ℕ
+lentResponse = 1024
 
 -- a run of a script on the worked card, in access domain 00
 unfoldable pub runOn : ℕ → ℕ → String → Result
 runOn application format script =
-    run (record { application = application; domain = 0x00; format = format; script = hex script; response = zeros 1024 }) worked
+    run (record { application = application; domain = 0x00; format = format; script = hex script; response = zeros lentResponse }) worked
 
 -- the answer's bytes
 unfoldable pub answerOf : Result → List ℕ

@@ -12,6 +12,9 @@ ghost use Rattle.card.specs.Row.{lent};
 ghost use Rattle.engine.specs.Calls as spec;
 ghost use Rattle.engine.specs.Promised.{AnswerFits};
 
+// The bytes that a script has at most.
+pub const LONGEST_SCRIPT: usize = 1024;
+
 // What a call answers: its number, the length of the answer, and the count of commands.
 pub struct Answer {
     pub number: usize,

@@ -1,4 +1,5 @@
 // How a run starts: the number that refuses it, in the paper's order, or the script of its format.
+use crate::LONGEST_SCRIPT;
 use command::Format;
 use tlv::template::Template;
 use tlv::template::template_of;
@@ -21,8 +22,6 @@ pub enum Start {
     Definite(usize, usize),
     Indefinite(usize, usize),
 }
-
-const LONGEST_SCRIPT: usize = 1024;
 
 // Returns the format of a script that is called with a format number.
 fn format_of(format: u8, script: &[u8]) -> Format

@@ -4,6 +4,9 @@ ghost use mathlib.Core.Path.{_≡_};
 ghost use lib.ListN.{length};
 ghost use Rattle.engine.specs.Worked.{worked};
 
+// How many bytes of response memory the programs lend to a run on the worked card.
+pub const LENT_RESPONSE: usize = 1024;
+
 // Returns the table: its seven entries.
 pub fn worked_table() -> [u8; 112]
     ensures { λ t. ⌜ (t ≡ worked .table) × (112 ≡ length t) ⌝ }

@@ -1,11 +1,11 @@
 -- What the program prints. "refusal is the call number, executed the count, response the answer, used U and scripts byte 2 after
 -- the run."
-use Prim.Native.Nat.{ℕ, _-_}
+use Prim.Native.Nat.{ℕ, _+_, _*_, _-_}
 use mathlib.Core.List.{List, [], _∷_, _++_}
 use Rattle.octets.specs.Bytes.{part, zeros}
 use Rattle.journal.specs.Entries.{usedBytes, scriptsOnTrial}
 use Rattle.engine.specs.Calls.{Result, run}
-use Rattle.engine.specs.Worked.{worked, answerOf}
+use Rattle.engine.specs.Worked.{worked, lentResponse, answerOf}
 use Rattle.lines.specs.Digits.{ascii, decoded, hexOf, decimal}
 use Rattle.lines.specs.Named.{lineFeed, named}
 use Rattle.worked.specs.declared.input.Call.{Call}
@@ -21,9 +21,10 @@ fiveLines refusal executed response used scripts =
     ++ (named (ascii "response=") (hexOf response) lineFeed
     ++ (named (ascii "used=") (decimal used) lineFeed ++ named (ascii "scripts=") (decimal scripts) lineFeed)))
 
--- the most that is printed: the names and line feeds have 44 bytes, each number at most 20 digits, and 1,024 bytes 2,048 digits
+-- the most that is printed: the names and line feeds have 44 bytes, each of the four numbers at most 20 digits, and each byte of the
+-- answer two
 abbrev pub mostPrinted : ℕ
-mostPrinted = 2172
+mostPrinted = 124 + 2 * lentResponse
 
 -- what is printed of a run
 unfoldable pub resultLines : Result → List ℕ
@@ -39,7 +40,7 @@ ranOn call script =
       domain = call .domain;
       format = call .format;
       script = script;
-      response = zeros 1024;
+      response = zeros lentResponse;
     })
     worked
 

@@ -4,6 +4,7 @@ mod output;
 mod runs;
 
 use input::Input;
+use lines::worked::LENT_RESPONSE;
 ghost use mathlib.Core.Path.{_≡_};
 ghost use Prim.Native.Nat.{_≤_};
 ghost use lib.ListN.{length};
@@ -14,7 +15,7 @@ ghost use Rattle.worked.specs.Printed.{mostPrinted, printed};
 const MOST_READ: usize = 16428;
 
 // The bytes that are printed at most.
-const MOST_PRINTED: usize = 2172;
+const MOST_PRINTED: usize = 124 + 2 * LENT_RESPONSE;
 
 // Puts what is printed for an input at the start of `out`. Returns how many bytes it has.
 fn print(input: &[u8], out: &mut [u8]) -> usize

@@ -6,6 +6,7 @@ ghost use Prim.Native.Nat.{_≤_};
 ghost use lib.ListN.{length};
 ghost use Rattle.octets.specs.Bytes.{overwrite};
 ghost use Rattle.journal.specs.Entries.{usedBytes, scriptsOnTrial};
+ghost use Rattle.engine.specs.Worked.{lentResponse};
 ghost use Rattle.worked.specs.Printed as spec;
 
 // Puts the five lines at the start of `out`. Returns the place after them.
@@ -16,7 +17,7 @@ pub fn put_lines(
     response: &[u8],
     journal: &[u8],
 ) -> usize
-    requires { ⌜ (spec.mostPrinted ≤ length (now out)) × (length (now response) ≤ 1024) × (4 ≤ length (now journal)) ⌝ }
+    requires { ⌜ (spec.mostPrinted ≤ length (now out)) × (length (now response) ≤ lentResponse) × (4 ≤ length (now journal)) ⌝ }
     ensures { λ r. ⌜ (now (out .exit) ≡ overwrite (now (out .entry)) 0 (spec.fiveLines refusal executed (now (response .entry)) (usedBytes (now (journal .entry))) (scriptsOnTrial (now (journal .entry))))) × (r ≡ length (spec.fiveLines refusal executed (now (response .entry)) (usedBytes (now (journal .entry))) (scriptsOnTrial (now (journal .entry))))) × (r ≤ spec.mostPrinted) ⌝ }
 {
     let second = put_number(out, 0, b"refusal=", refusal, b'\n');

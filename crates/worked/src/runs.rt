@@ -1,6 +1,8 @@
 // A run on the worked card.
 use crate::input::Call;
 use crate::output::put_lines;
+use journal::JOURNAL_LENGTH;
+use lines::worked::LENT_RESPONSE;
 use lines::worked::worked_files;
 use lines::worked::worked_table;
 ghost use mathlib.Core.Path.{_≡_};
@@ -16,8 +18,8 @@ pub fn put_run(call: Call, script: &[u8], out: &mut [u8]) -> usize
 {
     let mut table = worked_table();
     let mut files = worked_files();
-    let mut journal = [0u8; 2048];
-    let mut response = [0u8; 1024];
+    let mut journal = [0u8; JOURNAL_LENGTH];
+    let mut response = [0u8; LENT_RESPONSE];
     let answer = engine::run(
         call.application,
         call.domain,
