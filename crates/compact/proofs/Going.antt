@@ -4,20 +4,20 @@ use mathlib.Core.Bool.{Bool, true, false}
 use mathlib.Core.List.{List}
 use Prim.Native.Nat.{ℕ, zero, suc, _+_, _≤_, _<_}
 use native.Mathlib.Omega.{arith}
-use lib.ListN.{length}
+use lib.ListN.{length, length-take}
 use borrow.Author.Tests.{lt-ltb, le-ltb}
-use Rattle.octets.specs.Bytes.{AllBytes}
+use Rattle.octets.specs.Choice.{pick}
 use Rattle.card.specs.Row.{Card}
 use Rattle.journal.specs.Promised.{Starts}
 use Rattle.journal.specs.Changes.{takenBack}
+use Rattle.command.specs.declared.Format.the-variants.{Compact}
 use Rattle.command.specs.declared.Reading.{Reading}
 use Rattle.command.specs.declared.Step.{Step}
 use Rattle.command.specs.Outcomes.{wordOf, goesOn}
 use Rattle.step.specs.Steps.{State, stateOf, started, stepped}
-use Rattle.step.proofs.Keeps.{Holds, starts-holds}
+use Rattle.step.proofs.Keeps.{Holds, starts-holds, command-holds}
 use Rattle.compact.specs.Compact.{readAt, placeAfter, stepRead, stepAt, runFrom, run}
 use Rattle.compact.specs.Promised.{ReadingFits}
-use Rattle.compact.proofs.Runs.{step-holds}
 
 -- the place, the number of commands, what holds of session and card, and what is left to run, with a count that is large enough
 pub record Going (script : List ℕ) (application domain : ℕ) (card₀ card : Card) (step : Step) (at : ℕ) : Type 0 where
@@ -77,17 +77,57 @@ module _ {script : List ℕ} {application domain : ℕ} {card₀ : Card} where
       pub stops : goesOn (wordOf (next .outcome)) ≡ false → stateOf next after ≡ run script application domain card₀
       stops off = e ∙ sym (stop script domain at (stateOf step card) more (g .fuel) (g .enough) (same-end off)) ∙ g .whole
 
-      pub goes : AllBytes script → ReadingFits script at reading → goesOn (wordOf (next .outcome)) ≡ true → Going script application domain card₀ after next (reading .from + reading .size)
-      unfolding stepRead stepped placeAfter
-      goes small fits going =
-          let there = rw is at fits in
-          let k = on script domain at (stateOf step card) more (g .fuel) (g .enough) (there .further) (same-end going) in
-          rw is
-          (record {
-            inside = there .inside;
-            counted = let n : next .count ≡ step .count + 1 = ap (λ (st : State). st .step .count) e in let c = g .counted in omega (arith, there .further);
-            holds = subst (λ (st : State). Holds (takenBack card₀) (st .step .session) (st .card)) (sym e) (step-holds script small (takenBack card₀) domain at (stateOf step card) (g .holds));
-            fuel = k .0;
-            enough = k .1;
-            whole = ap (λ (st : State). runFrom (k .0) script domain (placeAfter (readAt script at)) st) e ∙ k .2 ∙ g .whole;
-          })
+      module _ (fits : ReadingFits script at reading) where
+        -- one command more is counted, and session and card hold as before
+        counts : next .count ≡ step .count + 1
+        unfolding stepRead stepped
+        counts = ap (λ (st : State). st .step .count) did
+
+        still : Holds (takenBack card₀) (next .session) after
+        unfolding stepRead stepped
+        still =
+            subst (λ (st : State). Holds (takenBack card₀) (st .step .session) (st .card)) (sym did)
+            (command-holds (takenBack card₀) (step .session) card (g .holds) Compact domain (reading .command) _ (rw length-take (omega (arith, fits .bytes .brief))))
+
+        pub goes : goesOn (wordOf (next .outcome)) ≡ true → Going script application domain card₀ after next (placeAfter reading)
+        goes going =
+            let there = rw is at fits in
+            let k = on script domain at (stateOf step card) more (g .fuel) (g .enough) (there .further) (same-end going) in
+            record {
+              inside = fits .inside;
+              counted = let c = g .counted in omega (arith, counts, fits .further);
+              holds = still;
+              fuel = k .0;
+              enough = subst (λ (r : Reading). length script ≤ placeAfter r + k .0) (sym is) (k .1);
+              whole =
+                  ap (λ (r : Reading). runFrom (k .0) script domain (placeAfter r) (stateOf next after)) is
+                  ∙ ap (λ (st : State). runFrom (k .0) script domain (placeAfter (readAt script at)) st) e
+                  ∙ k .2
+                  ∙ g .whole;
+            }
+
+        -- whether it goes on or stops, the script goes on from the place that follows: behind the command, or at the script's end
+        follows : (b : Bool) → goesOn (wordOf (next .outcome)) ≡ b → Going script application domain card₀ after next (pick b (placeAfter reading) (length script))
+        unfolding pick runFrom
+        follows true going = goes going
+        follows false off =
+            record {
+              inside = omega arith;
+              counted = let c = g .counted in omega (arith, counts, more);
+              holds = still;
+              fuel = 0;
+              enough = omega arith;
+              whole = stops off;
+            }
+
+        pub moves : Going script application domain card₀ after next (pick (goesOn (wordOf (next .outcome))) (placeAfter reading) (length script))
+        moves = follows (goesOn (wordOf (next .outcome))) refl
+
+        -- and that place is further on
+        later : (b : Bool) → at < pick b (placeAfter reading) (length script)
+        unfolding pick
+        later true = fits .further
+        later false = more
+
+        pub further : at < pick (goesOn (wordOf (next .outcome))) (placeAfter reading) (length script)
+        further = later (goesOn (wordOf (next .outcome)))

@@ -5,4 +5,5 @@ pub mod Handed
 pub mod Errors
 pub mod Apart
 pub mod Walks
+pub mod Relent
 pub mod Determined

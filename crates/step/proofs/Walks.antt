@@ -148,6 +148,20 @@ module _ {M : Type 1} (𝓤 : URA M) (H : Heap 𝓤) (A : Atoms 𝓤) (W : Given
       (allE 𝓤 (λ (u : Val). wand 𝓤 (H .at fullShare waitingTy b (o + 8) u) (H .at fullShare N′.mir b o (vstruct (vcons (low (s .standing)) (vcons u vnil))))) (bytesVal ys)) $ move ! (1 ∷ 0 ∷ []) $
       use2 W (‵ (fat fullShare N′.mir b o (lowered (sessionOf (s .standing) ys)))) (apply∗ 𝓤 (H .at fullShare waitingTy b (o + 8) (bytesVal ys)) (H .at fullShare N′.mir b o (lowered (sessionOf (s .standing) ys)))) $ at-once ! $ frame ! $ done !)
 
+-- a local that holds a session, as what can be lent, and back
+module _ {M : Type 1} (𝓤 : URA M) (H : Heap 𝓤) (A : Atoms 𝓤) (W : Given 𝓤 H A) (s : Session) (l : ℕ) where
+  pub lies-in : Is N.the-row s (lowered s ∷ []) → ent 𝓤 (sem 𝓤 H A (fat fullShare N′.mir l 0 (lowered s))) (sem 𝓤 H A (mem N.the-row .lies s l 0))
+  unfolding partOf
+  lies-in is =
+      qed W (‵ (fat fullShare N′.mir l 0 (lowered s)) ∷ []) ∵ use1 W (‵ (fat fullShare (rawTy N′.mir) l 0 (lowered s))) (W .laws .at-raw fullShare N′.mir l 0 (lowered s)) $
+      owned ! N.the-row (Is N.the-row) (LL.makes N.the-type N′.the-plain 𝓤 H A) s _ is $ move ! (1 ∷ 0 ∷ []) $ fjoin ! $ fpack ! (List Val) (λ us. fsep (cellAt fullShare (N.the-row .mir) us l 0) (N.the-row .own s us)) (lowered s ∷ []) $ done !
+
+  pub lies-out : ent 𝓤 (sem 𝓤 H A (mem N.the-row .lies s l 0)) (sem 𝓤 H A (fsep (fat fullShare N′.mir l 0 (lowered s)) (N.the-row .own s (lowered s ∷ []))))
+  unfolding partOf
+  lies-out =
+      qed W (‵ (mem N.the-row .lies s l 0) ∷ []) ∵ fpick ! (λ vs. fsplit ! $ spelt ! N.the-row (Is N.the-row) (shows 𝓤 H A N.the-row) (λ d. lowered d ∷ []) (N′.lowers .val-is) fullShare s vs l 0 $
+      use1 W (‵ (fat fullShare N′.mir l 0 (lowered s))) (W .laws .raw-at fullShare N′.mir l 0 (lowered s)) $ fjoin ! $ done !)
+
 -- the last bytes of what is made, the table, the file memory and the journal
 abbrev pub Bytes : Type 0
 Bytes = List ℕ × (List ℕ × (List ℕ × (List ℕ × Unit {0})))

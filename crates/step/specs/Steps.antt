@@ -15,6 +15,7 @@ use Rattle.command.specs.declared.Step.{Step}
 use Rattle.command.specs.Outcomes.{normal}
 use Rattle.plan.specs.Ends.{Plan}
 use Rattle.decide.specs.Decisions.{situation, planned}
+use Rattle.step.specs.declared.lent.Ended.{Ended}
 use Rattle.step.specs.Limits.{limited}
 
 -- a session, an outcome and a card after a command
@@ -40,11 +41,15 @@ pub record State : Type 0 where
 abbrev pub stateOf : Step → Card → State
 stateOf step card = record { step = step; card = card }
 
+-- how a script stands that has run no command
+abbrev pub notBegun : Ended
+notBegun = record { outcome = Well normal; count = 0 }
+
 -- "Each script starts afresh."
 unfoldable pub started : ℕ → Card → State
 started application card =
     record {
-      step = record { session = start application; outcome = Well normal; count = 0 };
+      step = record { session = start application; outcome = notBegun .outcome; count = notBegun .count };
       card = card;
     }
 

@@ -5,23 +5,34 @@ use command::Command;
 use command::Format;
 use command::Outcome;
 use command::Step;
+use command::ends::NORMAL;
 use session::Session;
 ghost use mathlib.Core.Path.{_≡_};
 ghost use Prim.Native.Nat.{_+_, _<_};
 ghost use lib.ListN.{length};
 ghost use Rattle.card.specs.Row.{lent};
-ghost use Rattle.step.specs.Steps.{stateOf, stepped, movedTo, commanded};
+ghost use Rattle.step.specs.Steps.{notBegun, stateOf, stepped, movedTo, commanded};
 ghost use Rattle.step.specs.Promised as spec;
 
 // How a command ended, and how many commands there were with it.
 pub struct Ended {
-    outcome: Outcome,
-    count: usize,
+    pub outcome: Outcome,
+    pub count: usize,
+}
+
+// Returns how a script stands that has run no command.
+pub fn not_begun() -> Ended
+    ensures { λ e. ⌜ e ≡ notBegun ⌝ }
+{
+    Ended {
+        outcome: Outcome::Well(NORMAL),
+        count: 0,
+    }
 }
 
 // Runs one command on a card, with its data, after `count` others: the lent session moves on. Returns how the command ended, and the
 // count with it.
-fn step(
+pub fn step(
     session: &mut Session,
     format: Format,
     domain: usize,
