@@ -9,6 +9,7 @@ use plan::Decision;
 use plan::NewRecord;
 use session::Standing;
 ghost use mathlib.Core.Path.{_≡_};
+ghost use Prim.Native.Nat.{_+_, _<_};
 ghost use lib.ListN.{length};
 ghost use Rattle.card.specs.Row.{lent};
 ghost use Rattle.journal.specs.Changes as changes;
@@ -97,16 +98,19 @@ pub fn perform(
     }
 }
 
-// Where a script stands after a command, and how the command ended.
+// "A command ends well, with or without data, or with an error word": where the session stands after a command, how the command ended, and
+// how many there were with it. The session's waiting bytes are lent beside it.
 pub struct Done {
     pub standing: Standing,
     pub outcome: Outcome,
+    pub count: usize,
 }
 
-// Does a decision, and puts what the command made to the front of the waiting bytes. Returns where the script stands after the command,
-// and how the command ended.
+// Does a decision, after `count` commands, and puts what the command made to the front of the waiting bytes. Returns where the script
+// stands after the command, how the command ended, and the count with it.
 pub fn carry_out(
     d: Decision,
+    count: usize,
     data: &[u8],
     made: &[u8],
     waiting: &mut [u8],
@@ -114,9 +118,10 @@ pub fn carry_out(
     files: &mut [u8],
     journal: &mut [u8],
 ) -> Done
-    requires { ⌜ PerformAsks (lent (now table) (now files) (now journal)) (d .change) (now «data») (now made) × (length (now waiting) ≡ mostWaiting) ⌝ }
-    ensures { λ r. ⌜ movedTo (sessionOf (r .standing) (now (waiting .exit))) (r .outcome) (lent (now (table .exit)) (now (files .exit)) (now (journal .exit)))
-        ≡ carriedOut (planOf d (now («data» .entry)) (now (made .entry))) (now (waiting .entry)) (lent (now (table .entry)) (now (files .entry)) (now (journal .entry))) ⌝ }
+    requires { ⌜ PerformAsks (lent (now table) (now files) (now journal)) (d .change) (now «data») (now made) × (length (now waiting) ≡ mostWaiting) × (count < 65535) ⌝ }
+    ensures { λ r. ⌜ (movedTo (sessionOf (r .standing) (now (waiting .exit))) (r .outcome) (lent (now (table .exit)) (now (files .exit)) (now (journal .exit)))
+        ≡ carriedOut (planOf d (now («data» .entry)) (now (made .entry))) (now (waiting .entry)) (lent (now (table .entry)) (now (files .entry)) (now (journal .entry))))
+        × (r .count ≡ count + 1) ⌝ }
 {
     let change = d.change;
     let standing = d.session;
@@ -124,5 +129,9 @@ pub fn carry_out(
     let n = d.made as usize;
     perform(change, data, made, table, files, journal);
     octets::copy(waiting, 0, &made[..n]);
-    Done { standing, outcome }
+    Done {
+        standing,
+        outcome,
+        count: count + 1,
+    }
 }

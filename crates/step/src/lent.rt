@@ -57,6 +57,7 @@ pub fn step(
         c,
         data,
         session.standing,
+        count,
         kept,
         counts,
         made,
@@ -68,7 +69,7 @@ pub fn step(
     session.standing = after.standing;
     Ended {
         outcome: after.outcome,
-        count: count + 1,
+        count: after.count,
     }
 }
 

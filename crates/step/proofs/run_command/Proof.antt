@@ -57,6 +57,7 @@ carry-out-requires c κs =
         left = subst (λ (p : Plan). HasRoom (s .args .journal .now) (cost (p .writes))) (sym (d .same)) (d .journal);
       },
       s .pre .1,
+      s .pre .2,
     )
 
 same-length : tie.Need-same-length
@@ -81,7 +82,8 @@ returns c =
     let at-limited = at-carry-out .before .before .before .before .before .before in
     let s = start (decided at-limited) in
     let d = at-limited .limited .ensures _ _ _ _ (decided at-limited .decide .ensures) in
-    at-carry-out .carry-out .ensures ∙ ap (λ (p : Plan). carriedOut p (s .args .waiting .now) (cardOf s)) (d .same)
+    let done = at-carry-out .carry-out .ensures in
+    (done .0 ∙ ap (λ (p : Plan). carriedOut p (s .args .waiting .now) (cardOf s)) (d .same), done .1)
 
 pub run-command-spec : {M : Type 1} → statement M
 run-command-spec =

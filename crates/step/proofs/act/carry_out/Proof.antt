@@ -1,5 +1,5 @@
 -- `step::act::carry_out` meets its contract: the writes, and what was made goes to the waiting bytes. Assumes nothing.
-use mathlib.Core.Path.{_≡_, sym}
+use mathlib.Core.Path.{_≡_, refl, sym}
 use native.Mathlib.Omega.{arith}
 use lib.ListN.{length, take}
 use lib.Seq.{length-take-le}
@@ -40,6 +40,9 @@ slice-aggregate-copy c = sym (made-long (known c))
 copy-requires : tie.Need-copy-requires
 copy-requires c κs = let k = known c in rw (made-long k) (omega (arith, cast-n k, start k .pre .1))
 
+add-t24 : tie.Need-add-t24
+add-t24 c = search needs
+
 same-length : tie.Need-same-length
 same-length c = search needs
 
@@ -59,7 +62,7 @@ returns c =
     let at-journal = at-copy .before .before .before .before in
     let at-perform = at-journal .before .before .before .before .before in
     let d = start (known (at-copy .before)) .args .d in
-    λ i. movedTo (sessionOf (d .session) (at-copy .copy .ensures i)) (d .outcome) (at-perform .perform .ensures i)
+    (λ i. movedTo (sessionOf (d .session) (at-copy .copy .ensures i)) (d .outcome) (at-perform .perform .ensures i), refl)
 
 pub carry-out-spec : {M : Type 1} → statement M
 carry-out-spec =
@@ -69,6 +72,7 @@ carry-out-spec =
     perform-requires
     slice-aggregate-copy
     copy-requires
+    add-t24
     same-length
     same-length-2
     same-length-3

@@ -82,10 +82,10 @@ stayed = (stay-ref (0 ∷ []) tt (plain (λ _. N.the-row)), (stay-none (λ _. F.
 
 -- what `run_command` says last: of what is made, of the waiting bytes, and of the card's memories
 abbrev Lasts : Type 0
-Lasts = Unit {0} × (Unit {0} × (Unit {0} × (Unit {0} × (Unit {0} × (Unit {0} × (Unit {0} × (List ℕ × (List ℕ × (List ℕ × (List ℕ × (List ℕ × Unit {0})))))))))))
+Lasts = Unit {0} × (Unit {0} × (Unit {0} × (Unit {0} × (Unit {0} × (Unit {0} × (Unit {0} × (Unit {0} × (List ℕ × (List ℕ × (List ℕ × (List ℕ × (List ℕ × Unit {0}))))))))))))
 
 abbrev fives : Lasts → List ℕ × (List ℕ × (List ℕ × (List ℕ × (List ℕ × Unit {0}))))
-fives zs = zs .1 .1 .1 .1 .1 .1 .1
+fives zs = zs .1 .1 .1 .1 .1 .1 .1 .1
 
 abbrev bytes : Lasts → Bytes
 bytes zs = (fives zs .0, fives zs .1 .1)
@@ -126,10 +126,10 @@ module _ {M : Type 1} (𝓤 : URA M) (H : Heap 𝓤) (A : Atoms 𝓤) (W : Given
   parts = (qs .1 .0, (qs .1 .1 .0, (fullShare, qs .1 .1 .1)))
 
   abbrev passed : (α : ℕ) → GName → Args command.signature (lifetimes α)
-  passed α δ = (format, (domain, (c, («data», (h .standing, (kept, (counts, (made, (waiting δ, (table, (files, (journal, tt))))))))))))
+  passed α δ = (format, (domain, (c, («data», (h .standing, (count, (kept, (counts, (made, (waiting δ, (table, (files, (journal, tt)))))))))))))
 
   abbrev passed-vals : (α : ℕ) → Vals command.signature (lifetimes α)
-  passed-vals α = (EL.vals F.the-type F′.the-laws format, (vint w64 domain ∷ [], (LL.vals C.the-type C′.the-laws c, (v «data» ∷ [], (low (h .standing) ∷ [], (vint w64 kept ∷ [], (vbool counts ∷ [], (v made ∷ [], (sliceVal (b, o + 8) mostWaiting ∷ [], (v table ∷ [], (v files ∷ [], (v journal ∷ [], tt))))))))))))
+  passed-vals α = (EL.vals F.the-type F′.the-laws format, (vint w64 domain ∷ [], (LL.vals C.the-type C′.the-laws c, (v «data» ∷ [], (low (h .standing) ∷ [], (vint w64 count ∷ [], (vint w64 kept ∷ [], (vbool counts ∷ [], (v made ∷ [], (sliceVal (b, o + 8) mostWaiting ∷ [], (v table ∷ [], (v files ∷ [], (v journal ∷ [], tt)))))))))))))
 
   abbrev to : ℕ → GName → RunCommand 𝓤 H A at-mem run .Ghost
   to α δ = ((lifetimes α, parts, tt, passed α δ, passed-vals α), tt)
@@ -142,7 +142,7 @@ module _ {M : Type 1} (𝓤 : URA M) (H : Heap 𝓤) (A : Atoms 𝓤) (W : Given
 
   -- what `run_command` says, and what is said of the session after it
   abbrev Said : Done → Lasts → Type 0
-  Said r zs = movedTo (sessionOf (r .standing) (waited zs)) (r .outcome) (after (bytes zs)) ≡ commanded format domain c (now «data») (sessionOf (h .standing) (h .waiting)) kept counts card
+  Said r zs = (movedTo (sessionOf (r .standing) (waited zs)) (r .outcome) (after (bytes zs)) ≡ commanded format domain c (now «data») (sessionOf (h .standing) (h .waiting)) kept counts card) × (r .count ≡ count + 1)
 
   -- what is had of the lifetimes and the parameters behind the session
   abbrev Tokens : Item 𝓤
@@ -168,8 +168,8 @@ module _ {M : Type 1} (𝓤 : URA M) (H : Heap 𝓤) (A : Atoms 𝓤) (W : Given
   module _ (is-format : Is F.the-row format (EL.vals F.the-type F′.the-laws format)) (domain-fits : domain < 2 ^ 64) (is-command : Is C.the-row c (LL.vals C.the-type C′.the-laws c)) (count-fits : count < 2 ^ 64) (kept-fits : kept < 2 ^ 64) where
     calls : (α : ℕ) (δ : GName) → Asked → length (h .waiting) ≡ mostWaiting → ent 𝓤 (onEntry 𝓤 H A command.signature (lifetimes α) parts (passed α δ) (passed-vals α)) (RunCommand 𝓤 H A at-mem run .pre (to α δ))
     calls α δ asked long =
-        qed W (Tokens⁺ α ∷ ‵ (owns (F.the-row ∷ usize ∷ C.the-row ∷ ShrSlice (named 0) (κs .1 .0) u8 ∷ S.the-row ∷ usize ∷ bool ∷ MutSlice (named 1) (κs .1 .1 .0) u8 ∷ MutSlice (named 2) (α ∷ []) u8 ∷ MutSlice (named 3) (κs .1 .1 .1 .0) u8 ∷ MutSlice (named 4) (κs .1 .1 .1 .1 .0) u8 ∷ MutSlice (named 5) (κs .1 .1 .1 .1 .1 .0) u8 ∷ []) (passed α δ) (passed-vals α)) ∷ []) ∵
-        says ! (asked .0, long) $ frame ! $ done !
+        qed W (Tokens⁺ α ∷ ‵ (owns (F.the-row ∷ usize ∷ C.the-row ∷ ShrSlice (named 0) (κs .1 .0) u8 ∷ S.the-row ∷ usize ∷ usize ∷ bool ∷ MutSlice (named 1) (κs .1 .1 .0) u8 ∷ MutSlice (named 2) (α ∷ []) u8 ∷ MutSlice (named 3) (κs .1 .1 .1 .0) u8 ∷ MutSlice (named 4) (κs .1 .1 .1 .1 .0) u8 ∷ MutSlice (named 5) (κs .1 .1 .1 .1 .1 .0) u8 ∷ []) (passed α δ) (passed-vals α)) ∷ []) ∵
+        says ! (asked .0, long, asked .1) $ frame ! $ done !
 
     -- what the callee asks, and the data kept
     goes : (α : ℕ) (δ : GName) → Asked → length (h .waiting) ≡ mostWaiting → Is S.the-row (h .standing) (low (h .standing) ∷ []) → ent 𝓤 (⋆ 𝓤 H A (Tokens⁺ α ∷ ‵ (Bytes-lent α δ) ∷ ‵ Rest ∷ [])) (sep 𝓤 (RunCommand 𝓤 H A at-mem run .pre (to α δ)) (sem 𝓤 H A Data))
@@ -179,20 +179,20 @@ module _ {M : Type 1} (𝓤 : URA M) (H : Heap 𝓤) (A : Atoms 𝓤) (W : Given
         -- [the data; the data; what is owned behind them; the tokens; the waiting bytes]
         move ! (2 ∷ []) $ fsplit ! $ drop ! $ fsplit ! $ drop ! $ fsplit ! $ drop ! $ fsplit ! $
         -- [what is made; the card's memories; the data; the data; the tokens; the waiting bytes]
-        move ! (5 ∷ 1 ∷ []) $ fjoin ! $ move ! (1 ∷ 0 ∷ []) $ fjoin ! $ backed ! kept counts kept-fits $
+        move ! (5 ∷ 1 ∷ []) $ fjoin ! $ move ! (1 ∷ 0 ∷ []) $ fjoin ! $ backed ! kept counts kept-fits $ owned ! usize (Is usize) (uint-makes 𝓤 H A W w64) count _ (refl, count-fits) $ fjoin ! $
         owned ! S.the-row (Is S.the-row) (LL.makes S.the-type S′.the-plain 𝓤 H A) (h .standing) _ is $ fjoin ! $ move ! (1 ∷ 0 ∷ []) $ fjoin ! $
         fronted ! format domain c is-format domain-fits is-command $
         move ! (2 ∷ 0 ∷ []) $ use2 W (raw (RunCommand 𝓤 H A at-mem run .pre (to α δ))) (calls α δ asked long) $ frame ! $ done !
 
     abbrev ended : Done → Ended
-    ended r = record { outcome = r .outcome; count = count + 1 }
+    ended r = record { outcome = r .outcome; count = r .count }
 
     exits : (r : Done) (zs : Lasts) → Said r zs → Is E.the-row (ended r) (LL.vals E.the-type E′.the-laws (ended r))
         → AsMany made table files journal (bytes zs)
         → ent 𝓤 (⋆ 𝓤 H A (Left (sessionOf (r .standing) (waited zs)) (bytes zs))) (Post (LL.val E.the-type E′.the-laws (ended r)))
     exits r zs e is many =
         qed W (Left (sessionOf (r .standing) (waited zs)) (bytes zs)) ∵
-        suffices ! _ (ends-at 𝓤 H A step.ended stayed (step.clauses 𝓤 H A at-mem run) W ((κs, qs, tt, a, vals), tt) (LL.val E.the-type E′.the-laws (ended r)) (ended r) (sessionOf (r .standing) (waited zs), (tt, (tt, (tt, (tt, (tt, (tt, (tt, bytes zs)))))))) (tt, (tt, (tt, (tt, (tt, (tt, (tt, (tt, many))))))))) $ says ! (e, refl) $
+        suffices ! _ (ends-at 𝓤 H A step.ended stayed (step.clauses 𝓤 H A at-mem run) W ((κs, qs, tt, a, vals), tt) (LL.val E.the-type E′.the-laws (ended r)) (ended r) (sessionOf (r .standing) (waited zs), (tt, (tt, (tt, (tt, (tt, (tt, (tt, bytes zs)))))))) (tt, (tt, (tt, (tt, (tt, (tt, (tt, (tt, many))))))))) $ says ! e $
         move ! (2 ∷ 3 ∷ []) $ join ! $ frame ! $
         -- [the session's value; its borrow; the last bytes, those of the journal first; the data]
         move ! (2 ∷ 3 ∷ 4 ∷ 5 ∷ []) $ gathered ! $ backed ! kept counts kept-fits $ owned ! usize (Is usize) (uint-makes 𝓤 H A W w64) count _ (refl, count-fits) $ fjoin ! $ move ! (3 ∷ 0 ∷ []) $ fjoin ! $
@@ -209,67 +209,65 @@ module _ {M : Type 1} (𝓤 : URA M) (H : Heap 𝓤) (A : Atoms 𝓤) (W : Given
           let typed-table = mut-slice-lawful 𝓤 H A W (named 3) (κs .1 .1 .1 .0) u8 .typed table _ is-table .0 in
           let typed-files = mut-slice-lawful 𝓤 H A W (named 4) (κs .1 .1 .1 .1 .0) u8 .typed files _ is-files .0 in
           let typed-journal = mut-slice-lawful 𝓤 H A W (named 5) (κs .1 .1 .1 .1 .1 .0) u8 .typed journal _ is-journal .0 in
-          let one-more : count + 1 < 2 ^ 64 = omega (arith, asked .1) in
           qed W ((‵ (flft (κs .0) (qs .0)) ⊛ Tokens) ∷ ‵ (owns (MutRef (named 0) (κs .0) N.the-row ∷ F.the-row ∷ usize ∷ C.the-row ∷ ShrSlice (named 1) (κs .1 .0) u8 ∷ usize ∷ usize ∷ bool ∷ MutSlice (named 2) (κs .1 .1 .0) u8 ∷ MutSlice (named 3) (κs .1 .1 .1 .0) u8 ∷ MutSlice (named 4) (κs .1 .1 .1 .1 .0) u8 ∷ MutSlice (named 5) (κs .1 .1 .1 .1 .1 .0) u8 ∷ []) a vals) ∷ []) ∵
           split ! $ move ! (2 ∷ []) $ fsplit ! $ fsplit3 ! $ drop ! $ move ! (0 ∷ 1 ∷ 3 ∷ []) $ enter ! P Λ code.function machs _ $
-          alloc1 ! (λ l₀. alloc1 ! (λ l₁. alloc1 ! (λ l₂. alloc1 ! (λ l₃. alloc1 ! (λ l₄. alloc1 ! (λ l₅. alloc1 ! (λ l₆. alloc1 ! (λ l₇. alloc1 ! (λ l₈. alloc1 ! (λ l₉. alloc1 ! (λ l₁₀. alloc1 ! (λ l₁₁. alloc1 ! (λ l₁₂. alloc1 ! (λ l₁₃. alloc1 ! (λ l₁₄. alloc1 ! (λ l₁₅. alloc1 ! (λ l₁₆. alloc1 ! (λ l₁₇. alloc1 ! (λ l₁₈. alloc1 ! (λ l₁₉. alloc1 ! (λ l₂₀. alloc1 ! (λ l₂₁. alloc1 ! (λ l₂₂. alloc1 ! (λ l₂₃. alloc1 ! (λ l₂₄. alloc1 ! (λ l₂₅. alloc0 ! $ params1 ! $
-          pass1 ! (init ! 48 refl (tt, tt)) $ pass1 ! (init ! 46 refl (EL.lawful F.the-type F′.the-laws 𝓤 H A W tt .typed format _ is-format .0)) $ pass1 ! (init ! 44 refl (tt, record { fits = domain-fits })) $
-          pass1 ! (init ! 42 refl (LL.lawful C.the-type C′.the-laws 𝓤 H A W .typed c _ is-command .0)) $ pass1 ! (init ! 40 refl typed-data) $ pass1 ! (init ! 38 refl (tt, record { fits = count-fits })) $
-          pass1 ! (init ! 36 refl (tt, record { fits = kept-fits })) $ pass1 ! (init ! 34 refl (tt, tt)) $
-          pass1 ! (init ! 32 refl typed-made) $ pass1 ! (init ! 30 refl typed-table) $ pass1 ! (init ! 28 refl typed-files) $ pass1 ! (init ! 26 refl typed-journal) $ pass0 ! $
+          alloc1 ! (λ l₀. alloc1 ! (λ l₁. alloc1 ! (λ l₂. alloc1 ! (λ l₃. alloc1 ! (λ l₄. alloc1 ! (λ l₅. alloc1 ! (λ l₆. alloc1 ! (λ l₇. alloc1 ! (λ l₈. alloc1 ! (λ l₉. alloc1 ! (λ l₁₀. alloc1 ! (λ l₁₁. alloc1 ! (λ l₁₂. alloc1 ! (λ l₁₃. alloc1 ! (λ l₁₄. alloc1 ! (λ l₁₅. alloc1 ! (λ l₁₆. alloc1 ! (λ l₁₇. alloc1 ! (λ l₁₈. alloc1 ! (λ l₁₉. alloc1 ! (λ l₂₀. alloc1 ! (λ l₂₁. alloc1 ! (λ l₂₂. alloc1 ! (λ l₂₃. alloc1 ! (λ l₂₄. alloc0 ! $ params1 ! $
+          pass1 ! (init ! 46 refl (tt, tt)) $ pass1 ! (init ! 44 refl (EL.lawful F.the-type F′.the-laws 𝓤 H A W tt .typed format _ is-format .0)) $ pass1 ! (init ! 42 refl (tt, record { fits = domain-fits })) $
+          pass1 ! (init ! 40 refl (LL.lawful C.the-type C′.the-laws 𝓤 H A W .typed c _ is-command .0)) $ pass1 ! (init ! 38 refl typed-data) $ pass1 ! (init ! 36 refl (tt, record { fits = count-fits })) $
+          pass1 ! (init ! 34 refl (tt, record { fits = kept-fits })) $ pass1 ! (init ! 32 refl (tt, tt)) $
+          pass1 ! (init ! 30 refl typed-made) $ pass1 ! (init ! 28 refl typed-table) $ pass1 ! (init ! 26 refl typed-files) $ pass1 ! (init ! 24 refl typed-journal) $ pass0 ! $
           -- the borrow is opened
-          move ! (52 ∷ 53 ∷ 54 ∷ []) $ opens ! tt N.the-row {h = h} b o (λ vs. spelt ! N.the-row (Is N.the-row) (shows 𝓤 H A N.the-row) (λ s. lowered s ∷ []) (N′.lowers .val-is) fullShare h vs b o $
+          move ! (50 ∷ 51 ∷ 52 ∷ []) $ opens ! tt N.the-row {h = h} b o (λ vs. spelt ! N.the-row (Is N.the-row) (shows 𝓤 H A N.the-row) (λ s. lowered s ∷ []) (N′.lowers .val-is) fullShare h vs b o $
           move ! (1 ∷ []) $ facts ! N.the-row (Is N.the-row) (shows 𝓤 H A N.the-row) h (lowered h ∷ []) (λ is.
           let is-standing = standing-is h _ is in
           let is-waiting = waiting-is h _ is in
           use1 W (‵ (fat fullShare N′.mir b o (lowered h))) (W .laws .raw-at fullShare N′.mir b o (lowered h)) $
-          -- [the session's cell; the open borrow; obs; auth; _25; …; … ; _1; …; room for _0; …; what the others own; their tokens]
-          assigns ! (of-opd ! (load ! (from ! (hop ! (look ! 52 refl) (fld ! refl (stop !)))) (look-in ! 0 (sub ! 0 refl (whole !))))) (from ! (stop !)) (init ! 26 refl (LL.lawful S.the-type S′.the-laws 𝓤 H A W .typed (h .standing) _ is-standing .0)) $
-          assigns ! (addr ! (from ! (fld ! refl (hop ! (look-in ! 36 (sub ! 0 refl (whole !))) (stop !))))) (from ! (stop !)) (init ! 24 refl (tt, tt)) $
-          assigns ! (agg ! (and-then ! (load ! (from ! (stop !)) (look ! 24 refl)) (and-then ! (load ! (from ! (fld ! refl (stop !))) (look-in ! 36 (sub ! 1 refl (whole !)))) (no-more !)))) (from ! (stop !)) (init ! 22 refl (tt, typed-made .1)) $
-          assigns ! (addr ! (from ! (hop ! (look ! 52 refl) (fld ! refl (stop !))))) (from ! (stop !)) (init ! 20 refl (tt, tt)) $
-          assigns ! (agg ! (and-then ! (load ! (from ! (stop !)) (look ! 20 refl)) (and-then ! (lit ! tt) (no-more !)))) (from ! (stop !)) (init ! 18 refl (tt, (tt, (record { fits = waiting-room .0 }, tt)))) $
-          assigns ! (addr ! (from ! (fld ! refl (hop ! (look-in ! 34 (sub ! 0 refl (whole !))) (stop !))))) (from ! (stop !)) (init ! 16 refl (tt, tt)) $
-          assigns ! (agg ! (and-then ! (load ! (from ! (stop !)) (look ! 16 refl)) (and-then ! (load ! (from ! (fld ! refl (stop !))) (look-in ! 34 (sub ! 1 refl (whole !)))) (no-more !)))) (from ! (stop !)) (init ! 14 refl (tt, typed-table .1)) $
-          assigns ! (addr ! (from ! (fld ! refl (hop ! (look-in ! 32 (sub ! 0 refl (whole !))) (stop !))))) (from ! (stop !)) (init ! 12 refl (tt, tt)) $
-          assigns ! (agg ! (and-then ! (load ! (from ! (stop !)) (look ! 12 refl)) (and-then ! (load ! (from ! (fld ! refl (stop !))) (look-in ! 32 (sub ! 1 refl (whole !)))) (no-more !)))) (from ! (stop !)) (init ! 10 refl (tt, typed-files .1)) $
-          assigns ! (addr ! (from ! (fld ! refl (hop ! (look-in ! 30 (sub ! 0 refl (whole !))) (stop !))))) (from ! (stop !)) (init ! 8 refl (tt, tt)) $
-          assigns ! (agg ! (and-then ! (load ! (from ! (stop !)) (look ! 8 refl)) (and-then ! (load ! (from ! (fld ! refl (stop !))) (look-in ! 30 (sub ! 1 refl (whole !)))) (no-more !)))) (from ! (stop !)) (init ! 6 refl (tt, typed-journal .1)) $
+          -- [the session's cell; the open borrow; obs; auth; _24; …; … ; _1; …; room for _0; …; what the others own; their tokens]
+          assigns ! (of-opd ! (load ! (from ! (hop ! (look ! 50 refl) (fld ! refl (stop !)))) (look-in ! 0 (sub ! 0 refl (whole !))))) (from ! (stop !)) (init ! 24 refl (LL.lawful S.the-type S′.the-laws 𝓤 H A W .typed (h .standing) _ is-standing .0)) $
+          assigns ! (addr ! (from ! (fld ! refl (hop ! (look-in ! 34 (sub ! 0 refl (whole !))) (stop !))))) (from ! (stop !)) (init ! 22 refl (tt, tt)) $
+          assigns ! (agg ! (and-then ! (load ! (from ! (stop !)) (look ! 22 refl)) (and-then ! (load ! (from ! (fld ! refl (stop !))) (look-in ! 34 (sub ! 1 refl (whole !)))) (no-more !)))) (from ! (stop !)) (init ! 20 refl (tt, typed-made .1)) $
+          assigns ! (addr ! (from ! (hop ! (look ! 50 refl) (fld ! refl (stop !))))) (from ! (stop !)) (init ! 18 refl (tt, tt)) $
+          assigns ! (agg ! (and-then ! (load ! (from ! (stop !)) (look ! 18 refl)) (and-then ! (lit ! tt) (no-more !)))) (from ! (stop !)) (init ! 16 refl (tt, (tt, (record { fits = waiting-room .0 }, tt)))) $
+          assigns ! (addr ! (from ! (fld ! refl (hop ! (look-in ! 32 (sub ! 0 refl (whole !))) (stop !))))) (from ! (stop !)) (init ! 14 refl (tt, tt)) $
+          assigns ! (agg ! (and-then ! (load ! (from ! (stop !)) (look ! 14 refl)) (and-then ! (load ! (from ! (fld ! refl (stop !))) (look-in ! 32 (sub ! 1 refl (whole !)))) (no-more !)))) (from ! (stop !)) (init ! 12 refl (tt, typed-table .1)) $
+          assigns ! (addr ! (from ! (fld ! refl (hop ! (look-in ! 30 (sub ! 0 refl (whole !))) (stop !))))) (from ! (stop !)) (init ! 10 refl (tt, tt)) $
+          assigns ! (agg ! (and-then ! (load ! (from ! (stop !)) (look ! 10 refl)) (and-then ! (load ! (from ! (fld ! refl (stop !))) (look-in ! 30 (sub ! 1 refl (whole !)))) (no-more !)))) (from ! (stop !)) (init ! 8 refl (tt, typed-files .1)) $
+          assigns ! (addr ! (from ! (fld ! refl (hop ! (look-in ! 28 (sub ! 0 refl (whole !))) (stop !))))) (from ! (stop !)) (init ! 6 refl (tt, tt)) $
+          assigns ! (agg ! (and-then ! (load ! (from ! (stop !)) (look ! 6 refl)) (and-then ! (load ! (from ! (fld ! refl (stop !))) (look-in ! 28 (sub ! 1 refl (whole !)))) (no-more !)))) (from ! (stop !)) (init ! 4 refl (tt, typed-journal .1)) $
           -- the waiting bytes are lent for a new lifetime
           lft-new ! tt (λ α. move ! (1 ∷ []) $ use1 W (later (some (λ (δ : GName). ‵ (Bytes-lent α δ) ⊛ LentOut 𝓤 H A W h b o (α ∷ []) δ))) (lends-waiting 𝓤 H A W h b o (named 2) (α ∷ []) is-waiting) $ await ! tt $ pick ! (λ δ. split ! $
-          -- [the waiting bytes; what is left of the session; the new lifetime's token; the open borrow; obs; auth; _25; …; what the others own; their tokens]
-          move ! (59 ∷ []) $ split ! $ move ! (1 ∷ []) $ split ! $ move ! (5 ∷ 1 ∷ []) $ join ! $ move ! (1 ∷ 0 ∷ []) $ join ! $ move ! (1 ∷ 0 ∷ []) $ join ! $
-          -- [all tokens; the waiting bytes; what is left of the session; the open borrow; obs; auth; _25; …; what the others own]
-          move ! (0 ∷ 1 ∷ 58 ∷ []) $ use3 W (raw (RunCommand 𝓤 H A at-mem run .pre (to α δ)) ⊛ ‵ Data) (goes α δ asked (is-waiting .1 .0 .1) is-standing) $ split ! $
-          calls-at ! fm (RunCommand 𝓤 H A at-mem run) known (to α δ) ((and-then ! (load ! (from ! (stop !)) (look ! 52 refl)) (and-then ! (load ! (from ! (stop !)) (look ! 50 refl)) (and-then ! (load ! (from ! (stop !)) (look ! 48 refl)) (and-then ! (load ! (from ! (stop !)) (look ! 46 refl)) (and-then ! (load ! (from ! (stop !)) (look ! 28 refl)) (and-then ! (load ! (from ! (stop !)) (look ! 42 refl)) (and-then ! (load ! (from ! (stop !)) (look ! 40 refl)) (and-then ! (load ! (from ! (stop !)) (look ! 24 refl)) (and-then ! (load ! (from ! (stop !)) (look ! 20 refl)) (and-then ! (load ! (from ! (stop !)) (look ! 16 refl)) (and-then ! (load ! (from ! (stop !)) (look ! 12 refl)) (and-then ! (load ! (from ! (stop !)) (look ! 8 refl)) (no-more !)))))))))))))) (λ u.
+          -- [the waiting bytes; what is left of the session; the new lifetime's token; the open borrow; obs; auth; _24; …; what the others own; their tokens]
+          move ! (57 ∷ []) $ split ! $ move ! (1 ∷ []) $ split ! $ move ! (5 ∷ 1 ∷ []) $ join ! $ move ! (1 ∷ 0 ∷ []) $ join ! $ move ! (1 ∷ 0 ∷ []) $ join ! $
+          -- [all tokens; the waiting bytes; what is left of the session; the open borrow; obs; auth; _24; …; what the others own]
+          move ! (0 ∷ 1 ∷ 56 ∷ []) $ use3 W (raw (RunCommand 𝓤 H A at-mem run .pre (to α δ)) ⊛ ‵ Data) (goes α δ asked (is-waiting .1 .0 .1) is-standing) $ split ! $
+          calls-at ! fm (RunCommand 𝓤 H A at-mem run) known (to α δ) ((and-then ! (load ! (from ! (stop !)) (look ! 50 refl)) (and-then ! (load ! (from ! (stop !)) (look ! 48 refl)) (and-then ! (load ! (from ! (stop !)) (look ! 46 refl)) (and-then ! (load ! (from ! (stop !)) (look ! 44 refl)) (and-then ! (load ! (from ! (stop !)) (look ! 26 refl)) (and-then ! (load ! (from ! (stop !)) (look ! 42 refl)) (and-then ! (load ! (from ! (stop !)) (look ! 40 refl)) (and-then ! (load ! (from ! (stop !)) (look ! 38 refl)) (and-then ! (load ! (from ! (stop !)) (look ! 22 refl)) (and-then ! (load ! (from ! (stop !)) (look ! 18 refl)) (and-then ! (load ! (from ! (stop !)) (look ! 14 refl)) (and-then ! (load ! (from ! (stop !)) (look ! 10 refl)) (and-then ! (load ! (from ! (stop !)) (look ! 6 refl)) (no-more !))))))))))))))) (λ u.
           use1 W (later (some (λ (r : Done). (Tokens⁺ α ⊛ ‵ (D.the-row .own r (u ∷ []))) ⊛ raw (ensured 𝓤 H A command.ended (command.clauses 𝓤 H A at-mem run) (lifetimes α) (passed α δ) tt r)))) (id⊢ 𝓤 _) $ await ! tt $ pick ! (λ r.
           split ! $ move ! (1 ∷ []) $ use1 W (some (λ (zs : Lasts). ‵ (lasts command.ended (lifetimes α) (passed α δ) zs) ⊛ raw (fact 𝓤 (Said r zs)))) (id⊢ 𝓤 _) $ pick ! (λ zs.
-          split ! $ move ! (1 ∷ []) $ heard ! (Said r zs) (λ e. fsplit ! $ drop ! $ fsplit ! $ drop ! $ fsplit ! $ drop ! $ fsplit ! $ drop ! $ fsplit ! $ drop ! $ fsplit ! $ drop ! $ fsplit ! $ drop ! $
+          split ! $ move ! (1 ∷ []) $ heard ! (Said r zs) (λ e. fsplit ! $ drop ! $ fsplit ! $ drop ! $ fsplit ! $ drop ! $ fsplit ! $ drop ! $ fsplit ! $ drop ! $ fsplit ! $ drop ! $ fsplit ! $ drop ! $ fsplit ! $ drop ! $
           -- the last bytes, as many as there were
           last-so ! made (bytes zs .0) (λ made-long. last-so ! (waiting δ) (waited zs) (λ waited-long. last-so ! table (bytes zs .1 .0) (λ table-long. last-so ! files (bytes zs .1 .1 .0) (λ files-long. last-so ! journal (bytes zs .1 .1 .1 .0) (λ journal-long. drop ! $
-          -- [the last bytes, those of the journal first; the tokens and the answer; the data; what is left of the session; the open borrow; obs; auth; _25; …]
+          -- [the last bytes, those of the journal first; the tokens and the answer; the data; what is left of the session; the open borrow; obs; auth; _24; …]
           move ! (5 ∷ []) $ split ! $ move ! (1 ∷ []) $ facts ! D.the-row (Is D.the-row) (shows 𝓤 H A D.the-row) r (u ∷ []) (λ is-done.
           let fields = LL.owed D.the-type D′.the-laws r _ is-done in
-          let is-ended = LL.owes E.the-type E′.the-laws (ended r) (fields .1 .0, ((refl, one-more), tt)) in
-          land ! (from ! (stop !)) (init ! 35 refl (LL.lawful D.the-type D′.the-laws 𝓤 H A W .typed r _ is-done .0)) $
-          rewrite ! 35 (λ (w : Val). ‵ (fat fullShare D′.mir l₁₃ 0 w)) (ap only (LL.tells D.the-type D′.the-laws r _ is-done)) refl $
+          let is-ended = LL.owes E.the-type E′.the-laws (ended r) (fields .1 .0, (fields .1 .1 .0, tt)) in
+          land ! (from ! (stop !)) (init ! 33 refl (LL.lawful D.the-type D′.the-laws 𝓤 H A W .typed r _ is-done .0)) $
+          rewrite ! 33 (λ (w : Val). ‵ (fat fullShare D′.mir l₁₃ 0 w)) (ap only (LL.tells D.the-type D′.the-laws r _ is-done)) refl $
           -- the lifetime is ended, and the session has its waiting bytes again
           split ! $ move ! (1 ∷ []) $ split ! $ move ! (1 ∷ []) $ split ! $ lft-end ! tt $ move ! (0 ∷ 10 ∷ 7 ∷ []) $
           use3 W (later (‵ (fat fullShare N′.mir b o (lowered (sessionOf (h .standing) (waited zs)))) ⊛ ‵ (Waiting .own (waited zs) (bytesVal (waited zs) ∷ [])))) (waiting-back 𝓤 H A W h b o (α ∷ []) δ (waited zs)) $ await ! tt $ split ! $
           move ! (1 ∷ []) $ facts ! Waiting (Is Waiting) (shows 𝓤 H A Waiting) (waited zs) (bytesVal (waited zs) ∷ []) (λ is-waited.
           let is-after = session-is (r .standing) (waited zs) (fields .0) is-waited in
-          -- [the session's cell; the tokens of the card, of what is made, of the data; the last bytes; the data; the open borrow; obs; auth; _25; …]
+          -- [the session's cell; the tokens of the card, of what is made, of the data; the last bytes; the data; the open borrow; obs; auth; _24; …]
           move ! (2 ∷ 1 ∷ []) $ join ! $ move ! (2 ∷ 0 ∷ []) $ join ! $ move ! (1 ∷ []) $
           -- where the script stands after the command is stored, and the rest of the answer is the result, with one command more
-          assigns ! (of-opd ! (load ! (from ! (fld ! refl (stop !))) (look-in ! 34 (sub ! 0 refl (whole !))))) (from ! (hop ! (look ! 58 refl) (fld ! refl (stop !)))) (store-in ! 0 (sub ! 0 refl (whole !)) (LL.lawful S.the-type S′.the-laws 𝓤 H A W .typed (r .standing) _ (fields .0) .0)) $
-          assigns ! (bin ! (load ! (from ! (stop !)) (look ! 48 refl)) (lit ! tt) (record { fits = one-more })) (from ! (stop !)) (init ! 10 refl (tt, record { fits = one-more })) $
-          assigns ! (agg ! (and-then ! (load ! (from ! (fld ! refl (stop !))) (look-in ! 34 (sub ! 1 refl (whole !)))) (and-then ! (load ! (from ! (stop !)) (look ! 10 refl)) (no-more !)))) (from ! (stop !)) (init ! 60 refl (LL.lawful E.the-type E′.the-laws 𝓤 H A W .typed (ended r) _ is-ended .0)) $
+          assigns ! (of-opd ! (load ! (from ! (fld ! refl (stop !))) (look-in ! 32 (sub ! 0 refl (whole !))))) (from ! (hop ! (look ! 56 refl) (fld ! refl (stop !)))) (store-in ! 0 (sub ! 0 refl (whole !)) (LL.lawful S.the-type S′.the-laws 𝓤 H A W .typed (r .standing) _ (fields .0) .0)) $
+          assigns ! (agg ! (and-then ! (load ! (from ! (fld ! refl (stop !))) (look-in ! 32 (sub ! 1 refl (whole !)))) (and-then ! (load ! (from ! (fld ! refl (stop !))) (look-in ! 32 (sub ! 2 refl (whole !)))) (no-more !)))) (from ! (stop !)) (init ! 58 refl (LL.lawful E.the-type E′.the-laws 𝓤 H A W .typed (ended r) _ is-ended .0)) $
           use1 W (‵ (fat fullShare (rawTy N′.mir) b o (lowered (sessionOf (r .standing) (waited zs))))) (W .laws .at-raw fullShare N′.mir b o (lowered (sessionOf (r .standing) (waited zs)))) $
           owned ! N.the-row (Is N.the-row) (LL.makes N.the-type N′.the-plain 𝓤 H A) (sessionOf (r .standing) (waited zs)) (lowered (sessionOf (r .standing) (waited zs)) ∷ []) is-after $ move ! (1 ∷ 0 ∷ 8 ∷ 9 ∷ 10 ∷ []) $
           closes ! tt N.the-row (sessionOf (r .standing) (waited zs)) (lowered (sessionOf (r .standing) (waited zs)) ∷ []) b o $
-          -- [obs; the borrow; the session's token; the tokens; the last bytes; the data; _25; …]
-          returns ! (look ! 59 refl) $ forget ! 9 refl $ forget ! 11 refl $ forget ! 13 refl $ forget ! 15 refl $ forget ! 17 refl $ forget ! 19 refl $ forget ! 21 refl $ forget ! 23 refl $ forget ! 25 refl $ forget ! 27 refl $ forget ! 29 refl $ forget ! 31 refl $ forget ! 33 refl $ forget ! 35 refl $ forget ! 37 refl $ forget ! 39 refl $ forget ! 41 refl $ forget ! 43 refl $ forget ! 45 refl $ forget ! 47 refl $ forget ! 49 refl $ forget ! 51 refl $ forget ! 53 refl $ forget ! 55 refl $ forget ! 57 refl $ forget ! 59 refl $
-          move ! (59 ∷ 60 ∷ []) $ free1 ! $ move ! (57 ∷ 58 ∷ []) $ free1 ! $ move ! (55 ∷ 56 ∷ []) $ free1 ! $ move ! (53 ∷ 54 ∷ []) $ free1 ! $ move ! (51 ∷ 52 ∷ []) $ free1 ! $ move ! (49 ∷ 50 ∷ []) $ free1 ! $ move ! (47 ∷ 48 ∷ []) $ free1 ! $ move ! (45 ∷ 46 ∷ []) $ free1 ! $ move ! (43 ∷ 44 ∷ []) $ free1 ! $ move ! (41 ∷ 42 ∷ []) $ free1 ! $ move ! (39 ∷ 40 ∷ []) $ free1 ! $ move ! (37 ∷ 38 ∷ []) $ free1 ! $ move ! (35 ∷ 36 ∷ []) $ free1 ! $ move ! (33 ∷ 34 ∷ []) $ free1 ! $ move ! (31 ∷ 32 ∷ []) $ free1 ! $ move ! (29 ∷ 30 ∷ []) $ free1 ! $ move ! (27 ∷ 28 ∷ []) $ free1 ! $ move ! (25 ∷ 26 ∷ []) $ free1 ! $ move ! (23 ∷ 24 ∷ []) $ free1 ! $ move ! (21 ∷ 22 ∷ []) $ free1 ! $ move ! (19 ∷ 20 ∷ []) $ free1 ! $ move ! (17 ∷ 18 ∷ []) $ free1 ! $ move ! (15 ∷ 16 ∷ []) $ free1 ! $ move ! (13 ∷ 14 ∷ []) $ free1 ! $ move ! (11 ∷ 12 ∷ []) $ free1 ! $ move ! (9 ∷ 10 ∷ []) $ free1 ! $ free0 ! $ by ! (exits r zs e is-ended (made-long, (table-long, (files-long, (journal-long, tt))))))))))))))))))))))))))))))))))))))))))))))
+          -- [obs; the borrow; the session's token; the tokens; the last bytes; the data; _24; …]
+          returns ! (look ! 57 refl) $ forget ! 9 refl $ forget ! 11 refl $ forget ! 13 refl $ forget ! 15 refl $ forget ! 17 refl $ forget ! 19 refl $ forget ! 21 refl $ forget ! 23 refl $ forget ! 25 refl $ forget ! 27 refl $ forget ! 29 refl $ forget ! 31 refl $ forget ! 33 refl $ forget ! 35 refl $ forget ! 37 refl $ forget ! 39 refl $ forget ! 41 refl $ forget ! 43 refl $ forget ! 45 refl $ forget ! 47 refl $ forget ! 49 refl $ forget ! 51 refl $ forget ! 53 refl $ forget ! 55 refl $ forget ! 57 refl $
+          move ! (57 ∷ 58 ∷ []) $ free1 ! $ move ! (55 ∷ 56 ∷ []) $ free1 ! $ move ! (53 ∷ 54 ∷ []) $ free1 ! $ move ! (51 ∷ 52 ∷ []) $ free1 ! $ move ! (49 ∷ 50 ∷ []) $ free1 ! $ move ! (47 ∷ 48 ∷ []) $ free1 ! $ move ! (45 ∷ 46 ∷ []) $ free1 ! $ move ! (43 ∷ 44 ∷ []) $ free1 ! $ move ! (41 ∷ 42 ∷ []) $ free1 ! $ move ! (39 ∷ 40 ∷ []) $ free1 ! $ move ! (37 ∷ 38 ∷ []) $ free1 ! $ move ! (35 ∷ 36 ∷ []) $ free1 ! $ move ! (33 ∷ 34 ∷ []) $ free1 ! $ move ! (31 ∷ 32 ∷ []) $ free1 ! $ move ! (29 ∷ 30 ∷ []) $ free1 ! $ move ! (27 ∷ 28 ∷ []) $ free1 ! $ move ! (25 ∷ 26 ∷ []) $ free1 ! $ move ! (23 ∷ 24 ∷ []) $ free1 ! $ move ! (21 ∷ 22 ∷ []) $ free1 ! $ move ! (19 ∷ 20 ∷ []) $ free1 ! $ move ! (17 ∷ 18 ∷ []) $ free1 ! $ move ! (15 ∷ 16 ∷ []) $ free1 ! $ move ! (13 ∷ 14 ∷ []) $ free1 ! $ move ! (11 ∷ 12 ∷ []) $ free1 ! $ move ! (9 ∷ 10 ∷ []) $ free1 ! $ free0 ! $ by ! (exits r zs e is-ended (made-long, (table-long, (files-long, (journal-long, tt)))))))))))))))))))))))))))))))))))))))))))))
 
 module _ {M : Type 1} (𝓤 : URA M) (H : Heap 𝓤) (A : Atoms 𝓤) (W : Given 𝓤 H A) (at-mem : Memory → SProp 𝓤) (run : Routine → Fun 𝓤) where
   step-walks : (P : Calls 𝓤 H) (Λ : Loops 𝓤 H) → FmC 𝓤 H (W .laws) P → Triple 𝓤 (P #run-command) (RunCommand 𝓤 H A at-mem run)
