@@ -63,7 +63,7 @@ answered-within false st kept r room few rule = (room, λ _. few)
 
 module _ (script : List ℕ) (small : AllBytes script) (before : Card) (domain : ℕ) (definite : Bool) where
   capdu-within : (from size : ℕ) (p : Progress) → Kept before p → length (p .kept) ≤ mostKept → Within (stepCapdu definite domain (part script from size) p)
-  unfolding stepCapdu capduCommand lastRapdu
+  unfolding stepCapdu stepped capduCommand lastRapdu
   capdu-within from size p h few =
       let bytes : List ℕ = part script from size in
       let r : Reading = capduCommand bytes in
@@ -73,7 +73,7 @@ module _ (script : List ℕ) (small : AllBytes script) (before : Card) (domain :
       let st : State = stepped (p .state) (commanded Expanded domain (r .command) d s (length (p .kept)) counts (p .state .card)) in
       let new : List ℕ = lastRapdu (st .step) (st .card .files) in
       let byte = part-small script small from size 4 in
-      let told = step-told (length (p .kept)) counts (s .standing) few (p .state .card) (h .sound) (h .good) domain (r .command) d (brief bytes (r .from) byte) byte (s .waiting) (p .state .step) (st .step) (st .card) refl definite refl in
+      let told = step-told (length (p .kept)) counts (s .standing) few (p .state .card) (h .sound) (h .good) domain (r .command) d (brief bytes (r .from) byte) byte (s .waiting) {s′ = st .step .session} {outcome = st .step .outcome} {after = st .card} refl definite refl in
       let all : length (st .step .session .waiting) ≡ mostWaiting =
       subst (λ (k : State). length (k .step .session .waiting) ≡ mostWaiting) (answered-state counts st (p .kept) new)
       (script-capdu-holds script small before domain definite from size p h .waiting)

@@ -2,8 +2,9 @@
 -- The definition `runFrom` counts its rounds down, and the code loops. `Going` says that for some count which is enough for the bytes
 -- that are left, the run from this place and progress is the whole run. The item at the place decides what `runFrom` does there, so
 -- one unfolding gives each case: `end-left`, `bad-left`, `stop-left`, `on-left`. An item takes at least a byte: so the count stays
--- enough, and there are never more commands than bytes read. That card and session stay sound past a C-APDU is `script-capdu-holds`.
--- Assumes nothing.
+-- enough, and there are never more commands than bytes read. A C-APDU that stops the script leaves nothing to run: the script is then
+-- going at the end of the value, so the law `moves` is one for both. Where no C-APDU stands, `reaches` says how far the script came,
+-- and from there `ends` and `breaks` say what the whole run is. Assumes nothing.
 use mathlib.Core.Path.{_≡_, refl, sym, ap, subst, _∙_}
 use mathlib.Core.Bool.{Bool, true, false}
 use mathlib.Core.List.{List}
@@ -11,7 +12,8 @@ use Prim.Native.Nat.{ℕ, zero, suc, _+_, _≤_, _<_}
 use native.Mathlib.Omega.{arith}
 use lib.ListN.{length}
 use Rattle.octets.proofs.Picks.{on-pick}
-use Rattle.octets.specs.Bytes.{AllBytes, part}
+use Rattle.octets.specs.Choice.{pick}
+use Rattle.octets.specs.Bytes.{part}
 use Rattle.card.specs.Row.{Card}
 use Rattle.tlv.specs.declared.template.Item.{Item}
 use Rattle.tlv.specs.declared.template.Item.the-variants.{Capdu, Bad, End}
@@ -26,7 +28,8 @@ use Rattle.step.proofs.Keeps.{Holds, starts-holds}
 use Rattle.step.specs.Limits.{mostKept}
 use Rattle.expanded.specs.declared.run.Gathered.{Gathered}
 use Rattle.expanded.specs.Expanded.{roomToGather, Progress, progressOf, answered, stepCapdu, stepBad, runFrom, begun}
-use Rattle.expanded.proofs.Runs.{script-capdu-holds}
+use Rattle.expanded.specs.declared.run.Reached.{Reached}
+use Rattle.expanded.specs.Promised.{nextAt, Reaches}
 
 -- an item that is known lies in the value
 module _ {at end : ℕ} {item : Item} where
@@ -43,11 +46,12 @@ pub counts-one : (definite : Bool) (domain : ℕ) (capdu : List ℕ) (p : Progre
 unfolding stepCapdu answered stepped
 counts-one definite domain capdu p = on-pick (λ (q : Progress). q .state .step .count ≡ p .state .step .count + 1) _ _ _ (λ y. refl) (λ n. refl)
 
--- the place, the number of commands, the bytes kept, what holds of session and card, and what is left to run, with a count that is large enough
+-- the place, the number of commands, the bytes kept, what holds of session and card, and what is left to run, with a count that is large
+-- enough
 pub record Going (script : List ℕ) (definite : Bool) (from end application domain : ℕ) (card₀ card : Card) (out : List ℕ) (g : Gathered) (at : ℕ) : Type 0 where
   pub inside : at ≤ end
   pub counted : g .step .count ≤ at
-  pub kept : g .kept ≤ mostKept
+  pub kept : at < end → g .kept ≤ mostKept
   pub room : g .kept + g .last ≤ roomToGather
   pub holds : Holds (takenBack card₀) (g .step .session) card
   pub fuel : ℕ
@@ -96,7 +100,7 @@ module _ {script : List ℕ} {definite : Bool} {from end application domain : �
       record {
         inside = inside;
         counted = rw is (omega arith);
-        kept = omega arith;
+        kept = λ more. omega arith;
         room = omega arith;
         holds = rw is (starts-holds card₀ application starts);
         fuel = length script;
@@ -104,56 +108,79 @@ module _ {script : List ℕ} {definite : Bool} {from end application domain : �
         whole = rw is;
       }
 
-  -- the item at a place of a script that is going
-  module _ {card : Card} {out : List ℕ} {g : Gathered} {at : ℕ} (going : Going script definite from end application domain card₀ card out g at) {item : Item} (is : item ≡ itemAt script at end) (fits : ItemFits at end item) where
-    pub ends : item ≡ End → Done script definite from end application domain card₀ card out g
-    ends known =
-        let c = going .counted in
-        let i = going .inside in
-        (sym (end-left script definite end domain at (progressOf g card out) (going .fuel) (sym is ∙ known)) ∙ going .whole, going .room, omega arith)
+  -- a script that is going
+  module _ {card : Card} {out : List ℕ} {g : Gathered} {at : ℕ} (going : Going script definite from end application domain card₀ card out g at) where
+    pub reaches : nextAt script at end .«is_capdu» ≡ false → Reaches script definite from end application domain card₀ card out (record { gathered = g; at = at })
+    reaches none =
+        record {
+          inside = going .inside;
+          counted = going .counted;
+          kept = going .kept;
+          room = going .room;
+          none = none;
+          rounds = going .fuel;
+          enough = going .enough;
+          whole = going .whole;
+        }
 
-    module _ (next : Gathered) (card′ : Card) (out′ : List ℕ) (room : next .kept + next .last ≤ roomToGather) where
-      pub breaks : {code : ℕ} → item ≡ Bad code → progressOf next card′ out′ ≡ stepBad code (progressOf g card out) → Done script definite from end application domain card₀ card′ out′ next
-      unfolding stepBad progressOf
-      breaks {code} known e =
-          let f = bad-lies fits known in
+    -- the C-APDU at its place was run
+    module _ (next : Gathered) {card′ : Card} (out′ : List ℕ) {start size : ℕ} (known : itemAt script at end ≡ Capdu start size) (further : at < start) (inside : start + size ≤ end)
+        (did : progressOf next card′ out′ ≡ stepCapdu definite domain (part script start size) (progressOf g card out)) (room : next .kept + next .last ≤ roomToGather)
+        (few : goesOn (wordOf (next .step .outcome)) ≡ true → next .kept ≤ mostKept) (holds : Holds (takenBack card₀) (next .step .session) card′) where
+      one-more : next .step .count ≡ g .step .count + 1
+      unfolding progressOf
+      one-more = ap (λ (p : Progress). p .state .step .count) did ∙ counts-one definite domain (part script start size) (progressOf g card out)
+
+      same-end : {b : Bool} → goesOn (wordOf (next .step .outcome)) ≡ b → goesOn (wordOf (stepCapdu definite domain (part script start size) (progressOf g card out) .state .step .outcome)) ≡ b
+      unfolding progressOf
+      same-end h = ap (λ (p : Progress). goesOn (wordOf (p .state .step .outcome))) (sym did) ∙ h
+
+      follows : (b : Bool) → goesOn (wordOf (next .step .outcome)) ≡ b → Going script definite from end application domain card₀ card′ out′ next (pick b (start + size) end)
+      unfolding pick runFrom
+      follows true on =
           let c = going .counted in
-          let n : next .step .count ≡ g .step .count + 1 = ap (λ (p : Progress). p .state .step .count) e in
-          (e ∙ sym (bad-left script definite end domain at (progressOf g card out) (going .fuel) code (f .0) (going .enough) (sym is ∙ known)) ∙ going .whole, room, omega arith)
+          let n = one-more in
+          let k = on-left script definite end domain at (progressOf g card out) start size further inside known (going .fuel) (going .enough) (same-end on) in
+          record {
+            inside = inside;
+            counted = omega arith;
+            kept = λ more. few on;
+            room = room;
+            holds = holds;
+            fuel = k .0;
+            enough = k .1;
+            whole = ap (λ (p : Progress). runFrom (k .0) script domain definite (start + size) end p) did ∙ k .2 ∙ going .whole;
+          }
+      follows false off =
+          let c = going .counted in
+          let n = one-more in
+          record {
+            inside = omega arith;
+            counted = omega arith;
+            kept = λ more. absurd (omega arith);
+            room = room;
+            holds = holds;
+            fuel = 0;
+            enough = omega arith;
+            whole = did ∙ sym (stop-left script definite end domain at (progressOf g card out) start size further inside known (going .fuel) (going .enough) (same-end off)) ∙ going .whole;
+          }
 
-      module _ {start size : ℕ} (known : item ≡ Capdu start size) (capdu : List ℕ) (lies : capdu ≡ part script start size) (did : progressOf next card′ out′ ≡ stepCapdu definite domain capdu (progressOf g card out)) where
-        e : progressOf next card′ out′ ≡ stepCapdu definite domain (part script start size) (progressOf g card out)
-        e = did ∙ ap (λ (x : List ℕ). stepCapdu definite domain x (progressOf g card out)) lies
+      pub moves : Going script definite from end application domain card₀ card′ out′ next (pick (goesOn (wordOf (next .step .outcome))) (start + size) end)
+      moves = follows (goesOn (wordOf (next .step .outcome))) refl
 
-        one-more : next .step .count ≡ g .step .count + 1
-        unfolding progressOf
-        one-more = ap (λ (p : Progress). p .state .step .count) e ∙ counts-one definite domain (part script start size) (progressOf g card out)
+  -- the item at the place that a script reached
+  module _ {card : Card} {out : List ℕ} {r : Reached} (reached : Reaches script definite from end application domain card₀ card out r) {item : Item} (is : item ≡ itemAt script (r .at) end) where
+    pub ends : item ≡ End → Done script definite from end application domain card₀ card out (r .gathered)
+    ends known =
+        let c = reached .counted in
+        let i = reached .inside in
+        (sym (end-left script definite end domain (r .at) (progressOf (r .gathered) card out) (reached .rounds) (sym is ∙ known)) ∙ reached .whole, reached .room, omega arith)
 
-        same-end : {b : Bool} → goesOn (wordOf (next .step .outcome)) ≡ b → goesOn (wordOf (stepCapdu definite domain (part script start size) (progressOf g card out) .state .step .outcome)) ≡ b
-        unfolding progressOf
-        same-end h = ap (λ (p : Progress). goesOn (wordOf (p .state .step .outcome))) (sym e) ∙ h
-
-        pub stops : goesOn (wordOf (next .step .outcome)) ≡ false → Done script definite from end application domain card₀ card′ out′ next
-        stops off =
-            let c = going .counted in
-            let n = one-more in
-            let l = capdu-lies fits known in
-            (e ∙ sym (stop-left script definite end domain at (progressOf g card out) start size (l .0) (l .1) (sym is ∙ known) (going .fuel) (going .enough) (same-end off)) ∙ going .whole, room, omega arith)
-
-        pub goes : AllBytes script → next .kept ≤ mostKept → goesOn (wordOf (next .step .outcome)) ≡ true → Going script definite from end application domain card₀ card′ out′ next (start + size)
-        unfolding progressOf
-        goes small few on =
-            let c = going .counted in
-            let n = one-more in
-            let l = capdu-lies fits known in
-            let k = on-left script definite end domain at (progressOf g card out) start size (l .0) (l .1) (sym is ∙ known) (going .fuel) (going .enough) (same-end on) in
-            record {
-              inside = l .1;
-              counted = omega arith;
-              kept = few;
-              room = room;
-              holds = subst (λ (p : Progress). Holds (takenBack card₀) (p .state .step .session) (p .state .card)) (sym e) (script-capdu-holds script small (takenBack card₀) domain definite start size (progressOf g card out) (going .holds));
-              fuel = k .0;
-              enough = k .1;
-              whole = ap (λ (p : Progress). runFrom (k .0) script domain definite (start + size) end p) e ∙ k .2 ∙ going .whole;
-            }
+    pub breaks : ItemFits (r .at) end item → (next : Gathered) (card′ : Card) (out′ : List ℕ) → next .kept + next .last ≤ roomToGather
+        → {code : ℕ} → item ≡ Bad code → progressOf next card′ out′ ≡ stepBad code (progressOf (r .gathered) card out) → Done script definite from end application domain card₀ card′ out′ next
+    unfolding stepBad progressOf
+    breaks fits next card′ out′ room {code} known e =
+        let f = bad-lies fits known in
+        let c = reached .counted in
+        let n : next .step .count ≡ r .gathered .step .count + 1 = ap (λ (p : Progress). p .state .step .count) e in
+        (e ∙ sym (bad-left script definite end domain (r .at) (progressOf (r .gathered) card out) (reached .rounds) code (f .0) (reached .enough) (sym is ∙ known)) ∙ reached .whole, room, omega arith)

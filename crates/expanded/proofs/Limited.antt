@@ -13,16 +13,17 @@ use Rattle.card.specs.Row.{Card}
 use Rattle.tlv.specs.Lengths.{lengthBytes}
 use Rattle.journal.specs.Sound.{soundCard}
 use Rattle.session.specs.declared.Standing.{Standing}
+use Rattle.session.specs.declared.Session.{Session}
 use Rattle.session.specs.Good.{Good}
 use Rattle.command.specs.declared.checks.Check.the-variants.{AnswerTooLong}
 use Rattle.command.specs.declared.Format.the-variants.{Expanded}
 use Rattle.command.specs.declared.Command.{Command}
-use Rattle.command.specs.declared.Step.{Step}
+use Rattle.command.specs.declared.Outcome.{Outcome}
 use Rattle.plan.specs.Ends.{Plan, failed}
 use Rattle.command.specs.Checks.{checkWord}
 use Rattle.command.specs.Outcomes.{wordOf, dataCount, goesOn}
 use Rattle.command.specs.Promised.{OutcomeFits}
-use Rattle.step.specs.Steps.{State, stateOf, carriedOut, stepped}
+use Rattle.step.specs.Steps.{Moved, carriedOut, movedTo}
 use Rattle.decide.specs.Decisions.{situation, planned}
 use Rattle.step.proofs.Handed.{outcome-fits, no-data}
 use Rattle.step.specs.Limits.{rapduSize, mostKept, limited}
@@ -62,15 +63,15 @@ module _ (kept : ℕ) (counts : Bool) (s : Standing) (few : kept ≤ mostKept) w
         by-count true fits is = let h = ltb-false mostKept (kept + rapduSize (dataCount (plan .outcome))) fits in omega arith
         by-count false fits is = rw (no-data (situation Expanded domain c «data» s card) (or-none (not definite) (eqb (c .case) 2 || eqb (c .case) 4) (sym is))) (omega arith)
 
-    -- the same of the step after it
-    module _ (before next : Step) (after : Card) (e : stateOf next after ≡ stepped (stateOf before card) (carriedOut left waiting card)) where
+    -- the same of what it comes to
+    module _ {s′ : Session} {outcome : Outcome} {after : Card} (e : movedTo s′ outcome after ≡ carriedOut left waiting card) where
       pub step-told : (definite : Bool) → counts ≡ keeps definite (c .case)
-          → OutcomeFits (length (after .files)) (next .outcome)
-          × (kept + rapduSize (dataCount (next .outcome)) ≤ roomToGather)
-          × (counts ≡ true → goesOn (wordOf (next .outcome)) ≡ true → kept + rapduSize (dataCount (next .outcome)) ≤ mostKept)
-      unfolding stepped carriedOut
+          → OutcomeFits (length (after .files)) outcome
+          × (kept + rapduSize (dataCount outcome) ≤ roomToGather)
+          × (counts ≡ true → goesOn (wordOf outcome) ≡ true → kept + rapduSize (dataCount outcome) ≤ mostKept)
+      unfolding carriedOut
       step-told definite is =
-          subst (λ (st : State). OutcomeFits (length (st .card .files)) (st .step .outcome)
-          × (kept + rapduSize (dataCount (st .step .outcome)) ≤ roomToGather)
-          × (counts ≡ true → goesOn (wordOf (st .step .outcome)) ≡ true → kept + rapduSize (dataCount (st .step .outcome)) ≤ mostKept)) (sym e)
+          subst (λ (m : Moved). OutcomeFits (length (m .card .files)) (m .outcome)
+          × (kept + rapduSize (dataCount (m .outcome)) ≤ roomToGather)
+          × (counts ≡ true → goesOn (wordOf (m .outcome)) ≡ true → kept + rapduSize (dataCount (m .outcome)) ≤ mostKept)) (sym e)
           (limited-fits, limited-room definite is, limited-kept)

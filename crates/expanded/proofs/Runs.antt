@@ -14,11 +14,13 @@ use Rattle.tlv.specs.declared.template.Template.the-variants.{Definite, Indefin
 use Rattle.tlv.specs.declared.template.Item.{Item}
 use Rattle.tlv.specs.declared.template.Item.the-variants.{Capdu, Bad, End}
 use Rattle.tlv.specs.Templates.{itemAt}
+use Rattle.session.specs.declared.Session.{Session}
 use Rattle.session.specs.Session.{start}
 use Rattle.command.specs.declared.checks.Check.the-variants.{AnswerTooLong}
 use Rattle.command.specs.declared.Format.the-variants.{Expanded}
+use Rattle.command.specs.declared.Command.{Command}
 use Rattle.command.specs.Outcomes.{wordOf, goesOn}
-use Rattle.step.specs.Steps.{State, started, stepped}
+use Rattle.step.specs.Steps.{Moved, State, started, stepped, commanded}
 use Rattle.step.proofs.Keeps.{Holds, Carries, command-holds, failed-holds}
 use Rattle.step.specs.Limits.{limited}
 use Rattle.expanded.specs.Capdu.{carried, capduCommand}
@@ -47,13 +49,18 @@ module _ (before : Card) where
   unfolding answered
   answered-holds counts st kept r h = on-pick Kept counts _ _ (λ y. h) (λ n. h)
 
+  -- a command under the 1,000-byte rule
+  pub limited-holds : (s : Session) (card : Card) → Holds before s card → (domain : ℕ) (c : Command) («data» : List ℕ) → length «data» ≤ 255 → (kept : ℕ) (counts : Bool)
+      → let m : Moved = commanded Expanded domain c «data» s kept counts card in Holds before (m .session) (m .card)
+  unfolding limited
+  limited-holds s card h domain c «data» few kept counts =
+      on-pick (Carries before s card h) _ _ _ (λ y. failed-holds before s card h AnswerTooLong) (λ n. command-holds before s card h Expanded domain c «data» few)
+
   pub capdu-holds : (definite : Bool) (domain : ℕ) (capdu : List ℕ) (p : Progress) → byte capdu 4 < 256 → Kept p → Kept (stepCapdu definite domain capdu p)
-  unfolding stepCapdu limited stepped capduCommand
+  unfolding stepCapdu stepped capduCommand
   capdu-holds definite domain capdu p b h =
-      let s = p .state .step .session in
-      let card = p .state .card in
       answered-holds _ _ _ _
-      (on-pick (Carries before s card h) _ _ _ (λ y. failed-holds before s card h AnswerTooLong) (λ n. command-holds before s card h Expanded domain _ _ (brief capdu (capduCommand capdu .from) b)))
+      (limited-holds (p .state .step .session) (p .state .card) h domain _ _ (brief capdu (capduCommand capdu .from) b) _ _)
 
   bad-holds : (code : ℕ) (p : Progress) → Kept p → Kept (stepBad code p)
   unfolding stepBad

@@ -19,12 +19,13 @@ use Rattle.command.specs.Outcomes.{wordOf, goesOn}
 use Rattle.step.specs.Steps.{State, stateOf, stepped, commanded}
 use Rattle.step.specs.Limits.{mostKept}
 use Rattle.expanded.specs.declared.run.Gathered.{Gathered}
+use Rattle.expanded.specs.declared.run.Rapdus.{Rapdus}
 use Rattle.expanded.specs.Capdu.{capduCommand}
-use Rattle.expanded.specs.Expanded.{badFormat, keeps, roomToGather, Progress, progressOf, answered, gatheredIn, lastRapdu, stepCapdu, stepBad}
+use Rattle.expanded.specs.Expanded.{badFormat, keeps, roomToGather, Progress, progressOf, answered, gatheredIn, gatheredOf, lastRapdu, stepCapdu, stepBad}
 
 -- bytes behind those kept: more of them, or the last
 module _ (out : List ℕ) (kept : ℕ) (new : List ℕ) (fits : kept + length new ≤ length out) (step : Step) (card : Card) {now : List ℕ} (is : now ≡ overwrite out kept new) {n : ℕ} (size : n ≡ length new) where
-  in-buffer : (counts : Bool) → progressOf (gatheredIn counts step kept n) card now ≡ answered counts (stateOf step card) (take kept out) new
+  in-buffer : (counts : Bool) → progressOf (gatheredOf step (gatheredIn counts kept n)) card now ≡ answered counts (stateOf step card) (take kept out) new
   unfolding gatheredIn answered progressOf pick
   in-buffer true = λ i. record { state = stateOf step card; kept = ((λ j. take (kept + size j) (is j)) ∙ take-through out kept new fits) i; last = [] }
   in-buffer false = λ i. record { state = stateOf step card; kept = (ap (take kept) is ∙ take-before out kept new fits kept (le-refl kept)) i; last = (ap (λ (l : List ℕ). part l kept n) is ∙ part-here out kept new fits n (sym size)) i }
@@ -34,10 +35,10 @@ abbrev pub Within : Gathered → Type 0
 Within g = (g .kept + g .last ≤ roomToGather) × (goesOn (wordOf (g .step .outcome)) ≡ true → g .kept ≤ mostKept)
 
 pub gathered-within : (counts : Bool) (step : Step) (kept n : ℕ) → kept + n ≤ roomToGather → kept ≤ mostKept → (counts ≡ true → goesOn (wordOf (step .outcome)) ≡ true → kept + n ≤ mostKept)
-    → {g : Gathered} → g ≡ gatheredIn counts step kept n → Within g
+    → {r : Rapdus} → r ≡ gatheredIn counts kept n → Within (gatheredOf step r)
 unfolding gatheredIn
 gathered-within counts step kept n room few rule e =
-    subst Within (sym e) (on-pick Within counts _ _ (λ y. (omega arith, rule y)) (λ no. (room, λ going. few)))
+    subst (λ (r : Rapdus). Within (gatheredOf step r)) (sym e) (on-pick (λ (r : Rapdus). Within (gatheredOf step r)) counts _ _ (λ y. (omega arith, rule y)) (λ no. (room, λ going. few)))
 
 module _ (before : Gathered) (card : Card) (out : List ℕ) (room : before .kept ≤ length out) where
   -- the state after a command of a C-APDU, by how many bytes are kept, whether its R-APDU is, and its data
@@ -65,9 +66,9 @@ module _ (before : Gathered) (card : Card) (out : List ℕ) (room : before .kept
             answered counts st (take (before .kept) out) (lastRapdu (st .step) (st .card .files))
 
     -- and its R-APDU, written behind those kept
-    pub stands : (n : ℕ) → n ≡ length new → before .kept + n ≤ length out → {now : List ℕ} → now ≡ overwrite out (before .kept) new → {g : Gathered} → g ≡ gatheredIn counts next (before .kept) n → progressOf g card′ now ≡ stepCapdu definite domain capdu (progressOf before card out)
+    pub stands : (n : ℕ) → n ≡ length new → before .kept + n ≤ length out → {now : List ℕ} → now ≡ overwrite out (before .kept) new → {g : Rapdus} → g ≡ gatheredIn counts (before .kept) n → progressOf (gatheredOf next g) card′ now ≡ stepCapdu definite domain capdu (progressOf before card out)
     stands n size fits {now} written h =
-        ap (λ (k : Gathered). progressOf k card′ now) h ∙ in-buffer out (before .kept) new (omega arith) next card′ written size counts ∙ ran
+        ap (λ (k : Rapdus). progressOf (gatheredOf next k) card′ now) h ∙ in-buffer out (before .kept) new (omega arith) next card′ written size counts ∙ ran
 
   -- a Bad format TLV
   pub bad-last : (code : ℕ) → before .kept + 3 ≤ length out → {now : List ℕ} → now ≡ overwrite out (before .kept) (badFormat code) → {n : ℕ} → n ≡ 3

@@ -19,6 +19,7 @@ use Rattle.command.specs.Outcomes.{wordOf, dataOf, goesOn}
 use Rattle.step.specs.Steps.{State, stateOf, started, stepped, commanded}
 use Rattle.step.specs.Limits.{mostKept}
 use Rattle.expanded.specs.declared.run.Gathered.{Gathered}
+use Rattle.expanded.specs.declared.run.Rapdus.{Rapdus}
 use Rattle.expanded.specs.Capdu.{capduCommand}
 
 -- "R-APDU: 23, length, data, status."
@@ -61,11 +62,13 @@ answered counts st kept r =
     (record { state = st; kept = kept; last = r })
 
 -- the same in a buffer, where the R-APDU's `n` bytes stand after the `kept` bytes
-unfoldable pub gatheredIn : Bool → Step → ℕ → ℕ → Gathered
-gatheredIn counts step kept n =
-    pick counts
-    (record { step = step; kept = kept + n; last = 0 })
-    (record { step = step; kept = kept; last = n })
+unfoldable pub gatheredIn : Bool → ℕ → ℕ → Rapdus
+gatheredIn counts kept n =
+    pick counts (record { kept = kept + n; last = 0 }) (record { kept = kept; last = n })
+
+-- a script with what is gathered of it
+abbrev pub gatheredOf : Step → Rapdus → Gathered
+gatheredOf step r = record { step = step; kept = r .kept; last = r .last }
 
 -- the R-APDU of the last command, with the file memory after it
 unfoldable pub lastRapdu : Step → List ℕ → List ℕ

@@ -4,14 +4,13 @@ use crate::run_command;
 use command::Command;
 use command::Format;
 use command::Outcome;
-use command::Step;
 use command::ends::NORMAL;
 use session::Session;
 ghost use mathlib.Core.Path.{_≡_};
 ghost use Prim.Native.Nat.{_+_, _<_};
 ghost use lib.ListN.{length};
 ghost use Rattle.card.specs.Row.{lent};
-ghost use Rattle.step.specs.Steps.{notBegun, stateOf, stepped, movedTo, commanded};
+ghost use Rattle.step.specs.Steps.{notBegun, movedTo, commanded};
 ghost use Rattle.step.specs.Promised as spec;
 
 // How a command ended, and how many commands there were with it.
@@ -70,46 +69,5 @@ pub fn step(
     Ended {
         outcome: after.outcome,
         count: after.count,
-    }
-}
-
-// Runs one command on a card, with its data. Returns the script's step after it.
-pub fn run_step(
-    format: Format,
-    domain: usize,
-    c: Command,
-    data: &[u8],
-    before: Step,
-    kept: usize,
-    counts: bool,
-    made: &mut [u8],
-    table: &mut [u8],
-    files: &mut [u8],
-    journal: &mut [u8],
-) -> Step
-    requires { ⌜ spec.RunCommandAsks (lent (now table) (now files) (now journal)) (before .session .standing) c (length (now «data»)) kept (now made) × (before .count < 65535) ⌝ }
-    ensures { λ r. ⌜ stateOf r (lent (now (table .exit)) (now (files .exit)) (now (journal .exit)))
-        ≡ stepped (stateOf before (lent (now (table .entry)) (now (files .entry)) (now (journal .entry))))
-        (commanded format domain c (now («data» .entry)) (before .session) kept counts (lent (now (table .entry)) (now (files .entry)) (now (journal .entry)))) ⌝ }
-{
-    let mut session = before.session;
-    let ended = step(
-        &mut session,
-        format,
-        domain,
-        c,
-        data,
-        before.count,
-        kept,
-        counts,
-        made,
-        table,
-        files,
-        journal,
-    );
-    Step {
-        session,
-        outcome: ended.outcome,
-        count: ended.count,
     }
 }
