@@ -63,10 +63,9 @@ use Rattle.session.proofs.start.Met as start-thm
 use Rattle.command.specs.declared.Command.{Command}
 use Rattle.command.specs.declared.Format.the-variants.{Compact}
 use Rattle.command.specs.declared.Outcome.{Outcome}
-use Rattle.command.specs.declared.Outcome.the-variants.{Well}
 use Rattle.command.specs.declared.Reading.{Reading}
 use Rattle.command.specs.declared.Step.{Step}
-use Rattle.command.specs.Outcomes.{normal, wordOf, goesOn}
+use Rattle.command.specs.Outcomes.{wordOf, goesOn}
 use Rattle.command.specs.Promised.{OfBytes}
 use Rattle.command.proofs.Lent.{lent-bytes}
 use Rattle.command.proofs.Walked.{comes-back}
@@ -82,13 +81,17 @@ use Rattle.command.proofs.Step as T
 use Rattle.command.proofs.Step.Laws as T′
 use Rattle.decide.specs.Decisions.{situation, planned}
 use Rattle.step.specs.Limits.{limited, longestScript}
-use Rattle.step.specs.Steps.{State, stateOf, started, carriedOut, stepped, commanded}
+use Rattle.step.specs.Steps.{State, stateOf, notBegun, started, carriedOut, stepped, commanded}
 use Rattle.step.specs.declared.lent.Ended.{Ended}
 use Rattle.step.proofs.Keeps.{starts-small}
 use Rattle.step.proofs.Walks.{lowered, v, lowered-is, type-at, placed, Bytes, TokensOf, AsMany}
-use Rattle.step.proofs.Relent.{StepOn, step-is, one-more, card-of, step-of, ended-is, outcome-is, SessionAt, Loans, Outs, Rooms, firsts, Finals, taken-all, put-all-back, Kept, StepAsks, After, to-step, lends-all, all-back}
+use Rattle.step.proofs.Relent.{StepOn, step-is, one-more, card-of, step-of, countAt, ended-is, outcome-is, SessionAt, Loans, Outs, Rooms, firsts, Finals, taken-all, put-all-back, Kept, StepAsks, After, to-step, lends-all, all-back}
 use Rattle.step.proofs.lent.Ended as E
 use Rattle.step.proofs.lent.Ended.Laws as E′
+use Rattle.step.proofs.lent.not_begun as not-begun
+use Rattle.step.proofs.lent.not_begun.Symbol as not-begun-def
+use Rattle.step.proofs.lent.not_begun.Symbol.{name as #not-begun}
+use Rattle.step.proofs.lent.not_begun.Met as not-begun-thm
 use Rattle.step.proofs.lent.step.Symbol as step-def
 use Rattle.step.proofs.lent.step.Symbol.{name as #step}
 use Rattle.step.proofs.lent.step.Met as step-thm
@@ -108,10 +111,6 @@ use Rattle.compact.proofs.run.next_place as place
 use Rattle.compact.proofs.run.next_place.Symbol as place-def
 use Rattle.compact.proofs.run.next_place.Symbol.{name as #place}
 use Rattle.compact.proofs.run.next_place.Met as place-thm
-use Rattle.step.proofs.lent.not_begun as not-begun
-use Rattle.step.proofs.lent.not_begun.Symbol as not-begun-def
-use Rattle.step.proofs.lent.not_begun.Symbol.{name as #not-begun}
-use Rattle.step.proofs.lent.not_begun.Met as not-begun-thm
 use Rattle.compact.proofs.run.run_lent.Key.{name as #run-lent}
 use Rattle.compact.proofs.run.run_lent as run-lent
 use Rattle.compact.proofs.run.run_lent.Statement as stated
@@ -431,7 +430,7 @@ module _ {M : Type 1} (𝓤 : URA M) (H : Heap 𝓤) (A : Atoms 𝓤) (W : Given
           rewrite ! 24 (λ (b : Bool). ‵ (fat fullShare tyBool l₁₅ 0 (vbool b))) off refl $
           leaves-loop ! (load ! (from ! (stop !)) (look ! 24 refl)) $ exec ! Cs Λ En body.t-6 (atRet En Post) $
           assigns ! (of-opd ! (load ! (from ! (stop !)) (look ! 3 refl))) (from ! (stop !)) (init ! 28 refl (LL.lawful N.the-type N′.the-laws 𝓤 H A W .typed (t .session) _ (t .is-session) .0)) $
-          assigns ! (agg ! (and-then ! (load ! (from ! (stop !)) (look ! 28 refl)) (and-then ! (load ! (from ! (fld ! refl (stop !))) (look-in ! 36 (sub ! 0 refl (whole !)))) (and-then ! (load ! (from ! (fld ! refl (stop !))) (look-in ! 36 (sub ! 1 refl (whole !)))) (no-more !))))) (from ! (stop !)) (init ! 53 refl (LL.lawful T.the-type T′.the-laws 𝓤 H A W .typed last _ is-last-step .0)) $
+          assigns ! (agg ! (and-then ! (load ! (from ! (stop !)) (look ! 28 refl)) (and-then ! (load ! (from ! (fld ! {τ = O′.mir} {d = 0} refl (stop !))) (look-in ! 36 (sub ! 0 {τ = O′.mir} {d = 0} refl (whole !)))) (and-then ! (load ! (from ! (fld ! {τ = word} {d = countAt} refl (stop !))) (look-in ! 36 (sub ! 1 {τ = word} {d = countAt} refl (whole !)))) (no-more !))))) (from ! (stop !)) (init ! 53 refl (LL.lawful T.the-type T′.the-laws 𝓤 H A W .typed last _ is-last-step .0)) $
           -- the borrows are closed
           move ! (0 ∷ 2 ∷ []) $ use2 W (later (TokensOf κs qs ⊛ ‵ (Finals κs qs made table files journal (t .bytes)))) (put-all-back κs qs made table files journal 𝓤 H A W (t .bytes) (t .many)) $ await ! tt $ split ! $
           -- [the tokens; the last bytes; the script; the session; the locals]
@@ -487,14 +486,14 @@ module _ {M : Type 1} (𝓤 : URA M) (H : Heap 𝓤) (A : Atoms 𝓤) (W : Given
           use3 W (later (some (λ (m : Loans). raw (StepOn 𝓤 H A at-mem run .pre (to-run t reading d l₈ m)) ⊛ ‵ (Kept κs qs made table files journal l₈ m)))) (lends t reading d l₈ (parts .0) (asks t more reading read d had l₈)) $ await ! tt $ pick ! (λ m. split ! $
           -- [what `step` asks; what is kept; the script; the locals but the session]
           calls-at ! fm (StepOn 𝓤 H A at-mem run) known-step (to-run t reading d l₈ m)
-          (and-then ! (load ! (from ! (stop !)) (look ! 21 refl)) (and-then ! (load ! (from ! (stop !)) (look ! 19 refl)) (and-then ! (load ! (from ! (stop !)) (look ! 46 refl)) (and-then ! (load ! (from ! (fld ! refl (stop !))) (look-in ! 31 (sub ! 0 refl (whole !)))) (and-then ! (load ! (from ! (stop !)) (look ! 29 refl)) (and-then ! (load ! (from ! (fld ! refl (stop !))) (look-in ! 35 (sub ! 1 refl (whole !)))) (and-then ! (lit ! tt) (and-then ! (false-lit !) (and-then ! (load ! (from ! (stop !)) (look ! 15 refl)) (and-then ! (load ! (from ! (stop !)) (look ! 11 refl)) (and-then ! (load ! (from ! (stop !)) (look ! 7 refl)) (and-then ! (load ! (from ! (stop !)) (look ! 3 refl)) (no-more !))))))))))))) (λ u₃.
+          (and-then ! (load ! (from ! (stop !)) (look ! 21 refl)) (and-then ! (load ! (from ! (stop !)) (look ! 19 refl)) (and-then ! (load ! (from ! (stop !)) (look ! 46 refl)) (and-then ! (load ! (from ! (fld ! {τ = C′.mir} {d = 0} refl (stop !))) (look-in ! 31 (sub ! 0 {τ = C′.mir} {d = 0} refl (whole !)))) (and-then ! (load ! (from ! (stop !)) (look ! 29 refl)) (and-then ! (load ! (from ! (fld ! {τ = word} {d = countAt} refl (stop !))) (look-in ! 35 (sub ! 1 {τ = word} {d = countAt} refl (whole !)))) (and-then ! (lit ! tt) (and-then ! (false-lit !) (and-then ! (load ! (from ! (stop !)) (look ! 15 refl)) (and-then ! (load ! (from ! (stop !)) (look ! 11 refl)) (and-then ! (load ! (from ! (stop !)) (look ! 7 refl)) (and-then ! (load ! (from ! (stop !)) (look ! 3 refl)) (no-more !))))))))))))) (λ u₃.
           use2 W (later (some (λ (s : Ran t reading d l₈ u₃). ‵ (SessionAt l₈ (s .session)) ⊛ ‵ (Open (s .bytes)) ⊛ ‵ Tok))) (takes-back t reading d l₈ m u₃) $ await ! tt $ pick ! (λ s. split ! $ move ! (1 ∷ []) $ split ! $ move ! (1 ∷ 3 ∷ 0 ∷ 2 ∷ []) $
           land ! (from ! (stop !)) (store ! 36 refl (LL.lawful E.the-type E′.the-laws 𝓤 H A W .typed (s .ended) _ (s .is-ended) .0)) $
           rewrite ! 36 (λ (w : Val). ‵ (fat fullShare E′.mir l₉ 0 w)) (ap only (E′.lowers .val-is (s .ended) _ (s .is-ended))) refl $
           let is-outcome = outcome-is (s .ended) _ (s .is-ended) in
           -- the next place
           use2 W (raw (PlaceOn 𝓤 H A at-mem run .pre (to-place reading is-reading (read .1 .inside) (s .ended .outcome) is-outcome)) ⊛ ‵ Script) (goes-place reading is-reading (read .1 .inside) (s .ended .outcome) is-outcome) $ split ! $
-          calls-at-last ! fm (PlaceOn 𝓤 H A at-mem run) known-place (to-place reading is-reading (read .1 .inside) (s .ended .outcome) is-outcome) (and-then ! (load ! (from ! (stop !)) (look ! 51 refl)) (and-then ! (load ! (from ! (stop !)) (look ! 32 refl)) (and-then ! (load ! (from ! (fld ! refl (stop !))) (look-in ! 36 (sub ! 0 refl (whole !)))) (no-more !)))) (λ u₄.
+          calls-at-last ! fm (PlaceOn 𝓤 H A at-mem run) known-place (to-place reading is-reading (read .1 .inside) (s .ended .outcome) is-outcome) (and-then ! (load ! (from ! (stop !)) (look ! 51 refl)) (and-then ! (load ! (from ! (stop !)) (look ! 32 refl)) (and-then ! (load ! (from ! (fld ! {τ = O′.mir} {d = 0} refl (stop !))) (look-in ! 36 (sub ! 0 {τ = O′.mir} {d = 0} refl (whole !)))) (no-more !)))) (λ u₄.
           comes-back ! tt place.ended (place.clauses 𝓤 H A at-mem run) (to-place reading is-reading (read .1 .inside) (s .ended .outcome) is-outcome .0) tt u₄ (λ (k : ℕ). k ≡ choose (goesOn (wordOf (s .ended .outcome))) (placeAfter reading) n) (λ k e. id⊢ 𝓤 _) (λ k there is₄.
           land-last ! (from ! (stop !)) (store ! 35 refl (uint-lawful 𝓤 H A W w64 .typed k _ is₄ .0)) $
           drop ! $ use1 W (‵ Tok) (fst∗ 𝓤 (sem 𝓤 H A Tok) (emp 𝓤)) $
@@ -513,7 +512,7 @@ module _ {M : Type 1} (𝓤 : URA M) (H : Heap 𝓤) (A : Atoms 𝓤) (W : Given
       loops t = loop-rule 𝓤 H (W .laws) 𝓣 Less less-wf En body.turn-1 Left (λ (u : At). ⋆ 𝓤 H A (I u)) turns t
 
     module _ (known-start : Triple 𝓤 (𝓣 .C #start) (StartOn 𝓤 H A at-mem run)) (known-begun : Triple 𝓤 (𝓣 .C #not-begun) (BegunOn 𝓤 H A at-mem run)) where
-      module _ (s : Session) (e : Ended) (is-start : s ≡ begun application) (is-begun : e ≡ record { outcome = Well normal; count = 0 }) (is-session : Is N.the-row s (lowered s ∷ [])) (is-ended : Is E.the-row e (E′.lowered e ∷ [])) where
+      module _ (s : Session) (e : Ended) (is-start : s ≡ begun application) (is-begun : e ≡ notBegun) (is-session : Is N.the-row s (lowered s ∷ [])) (is-ended : Is E.the-row e (E′.lowered e ∷ [])) where
         first-going : Going (now script) application domain card₀ card₀ (step-of s e) 0
         unfolding started
         first-going = begins (asked .0) (λ i. record { session = is-start i; outcome = is-begun i .outcome; count = is-begun i .count })
@@ -549,7 +548,7 @@ module _ {M : Type 1} (𝓤 : URA M) (H : Heap 𝓤) (A : Atoms 𝓤) (W : Given
           assigns ! (of-opd ! (load ! (from ! (stop !)) (look ! 24 refl))) (from ! (stop !)) (init ! 34 refl (LL.lawful N.the-type N′.the-laws 𝓤 H A W .typed s _ is-session .0)) $
           use0 W (raw (BegunOn 𝓤 H A at-mem run .pre to-begun)) goes-begun $
           calls-at ! fm (BegunOn 𝓤 H A at-mem run) known-begun to-begun (no-more !) (λ u′.
-          comes-back ! tt not-begun.ended (not-begun.clauses 𝓤 H A at-mem run) (to-begun .0) tt u′ (λ (e : Ended). e ≡ record { outcome = Well normal; count = 0 }) (λ s e. id⊢ 𝓤 _) (λ e is-begun is′.
+          comes-back ! tt not-begun.ended (not-begun.clauses 𝓤 H A at-mem run) (to-begun .0) tt u′ (λ (e : Ended). e ≡ notBegun) (λ s e. id⊢ 𝓤 _) (λ e is-begun is′.
           land ! (from ! (stop !)) (init ! 34 refl (LL.lawful E.the-type E′.the-laws 𝓤 H A W .typed e _ is′ .0)) $ drop ! $ drop ! $
           rewrite ! 32 (λ (w : Val). ‵ (fat fullShare E′.mir l₉ 0 w)) (ap only (E′.lowers .val-is e _ is′)) refl $
           let is-ended = ended-is e _ is′ in
