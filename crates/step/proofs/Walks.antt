@@ -1,10 +1,10 @@
--- What the walks of `lent::step` and of the functions that lend a session to it share: a session and its waiting bytes where they lie, what is asked and said
--- of a command, what its format, domain and command own, and the last bytes of the memories that are lent to be written.
--- A session is two fields of one cell: where the script stands, and the waiting bytes. `lends-waiting` takes the bytes out of the cell
--- and lends them as a slice for a lifetime; what is left of the cell takes any bytes back (`Without`), and once the lifetime is over
--- `waiting-back` puts the slice's last bytes there. What is known of a session and what is known of its two fields give each other
--- (`standing-is`, `waiting-is`, `session-is`). The steps at the end put together, or take apart, what the two contracts have in
--- common. Assumes nothing.
+-- What the walks of `lent::step` and of the functions that lend a session to it share: a session and its waiting bytes where they lie,
+-- what a command asks, what its format, domain and command own, and the last bytes of the memories that are lent to be written.
+-- A session is two fields of one cell: where the script stands, and the waiting bytes. `waiting-out` takes the bytes out of the cell;
+-- what is left of the cell takes any bytes back (`Without`), by `waiting-in`. `lends-waiting` lends them as a slice for a lifetime, and
+-- once the lifetime is over `waiting-back` puts the slice's last bytes there. What is known of a session and what is known of its two
+-- fields give each other (`standing-is`, `waiting-is`, `session-is`). The steps at the end put together, or take apart, what the
+-- contracts have in common. Assumes nothing.
 use mathlib.Core.Bool.{Bool}
 use mathlib.Core.Path.{_≡_, refl, sym, ap, subst}
 use Prim.Native.Nat.{ℕ, zero, suc, _+_, _<_, _^_}
@@ -48,12 +48,10 @@ use Rattle.session.proofs.Session as N
 use Rattle.session.proofs.Session.Laws as N′
 use Rattle.command.specs.declared.Format.{Format}
 use Rattle.command.specs.declared.Command.{Command}
-use Rattle.command.specs.declared.Outcome.{Outcome}
 use Rattle.command.proofs.Format as F
 use Rattle.command.proofs.Format.Laws as F′
 use Rattle.command.proofs.Command as C
 use Rattle.command.proofs.Command.Laws as C′
-use Rattle.step.specs.Steps.{movedTo, commanded}
 use Rattle.step.specs.Promised.{RunCommandAsks}
 
 -- the machine values of where a script stands, of a session, of its waiting bytes, and of a slice
@@ -189,13 +187,9 @@ placed 𝓤 H (local τ h ∷ ls) (b ∷ bs) = (τ, b) ∷ placed 𝓤 H ls bs
 abbrev pub Bytes : Type 0
 Bytes = List ℕ × (List ℕ × (List ℕ × (List ℕ × Unit {0})))
 
--- a command in a session, after `count` others, on a card: what is asked, and what is said of the session, the outcome, the count and the card after it
-module _ (s : Session) (c : Command) («data» : RefT (List ℕ)) (count kept : ℕ) (made : RefT (List ℕ)) (card : Card) where
-  abbrev pub AskedOf : Type 0
-  AskedOf = RunCommandAsks card (s .standing) c (length (now «data»)) kept (now made) × (count < 65535)
-
-  abbrev pub SaidOf : Format → ℕ → Bool → Session → Outcome → ℕ → Card → Type 0
-  SaidOf format domain counts s′ outcome count′ after = (movedTo s′ outcome after ≡ commanded format domain c (now «data») s kept counts card) × (count′ ≡ count + 1)
+-- what a command in a session, after `count` others, asks of a card
+abbrev pub AskedOf : Session → Command → RefT (List ℕ) → ℕ → ℕ → RefT (List ℕ) → Card → Type 0
+AskedOf s c «data» count kept made card = RunCommandAsks card (s .standing) c (length (now «data»)) kept (now made) × (count < 65535)
 
 -- the tokens of the lifetimes of a card's three memories
 abbrev pub CardTokens : {M : Type 1} {𝓤 : URA M} → Lfts 3 → Shares 3 → Item 𝓤
