@@ -33,7 +33,7 @@ use Rattle.expanded.specs.declared.run.Rapdus.{Rapdus}
 use Rattle.expanded.specs.declared.run.Next.{Next}
 use Rattle.expanded.specs.Capdu.{capduCommand}
 use Rattle.expanded.specs.Expanded.{keeps, rapdu, roomToGather, gatheredIn, gatheredOf, lastRapdu}
-use Rattle.expanded.specs.Promised.{CapduFits, CapduLies, nextOf, nextAt, placeAfter}
+use Rattle.expanded.specs.Promised.{CapduFits, CapduLies, nextOf, nextAt, nextPlace}
 use Rattle.expanded.proofs.Going.{Going, moves}
 use Rattle.expanded.proofs.Limited.{step-told}
 use Rattle.expanded.proofs.Runs.{limited-holds}
@@ -108,8 +108,8 @@ module _ {script : List ℕ} {definite : Bool} {from end application domain : �
       within : Within after
       within = gathered-within counts (after .step) (g .kept) (rapduSize (dataCount o)) (told .1) few-kept (told .2) gathers
 
-      pub goes-on : Going script definite from end application domain card₀ card′ out′ after (placeAfter next o end)
-      unfolding placeAfter lastRapdu
+      pub goes-on : Going script definite from end application domain card₀ card′ out′ after (nextPlace next o end)
+      unfolding nextPlace lastRapdu
       goes-on =
           moves going after out′ (item-of (next .at) (itemAt script (next .at) end) there is) (lies .further) (lies .inside)
           (stands g card out (omega (arith, few-kept)) definite domain (part script (next .from) (next .size)) reading reads counts keep «data» has
@@ -122,6 +122,6 @@ module _ {script : List ℕ} {definite : Bool} {from end application domain : �
   later true = omega (arith, lies .further)
   later false = omega (arith, lies .further, lies .inside)
 
-  pub further : (o : Outcome) → next .at < placeAfter next o end
-  unfolding placeAfter
+  pub further : (o : Outcome) → next .at < nextPlace next o end
+  unfolding nextPlace
   further o = later (goesOn (wordOf o))

@@ -42,8 +42,8 @@ pub record CapduLies (end : ℕ) (next : Next) : Type 0 where
   pub least : leastCapdu ≤ next .size
 
 -- the place where a script goes on: after a C-APDU, or at the end of the value where its outcome stops the script
-unfoldable pub placeAfter : Next → Outcome → ℕ → ℕ
-placeAfter next o end = pick (goesOn (wordOf o)) (next .from + next .size) end
+unfoldable pub nextPlace : Next → Outcome → ℕ → ℕ
+nextPlace next o end = pick (goesOn (wordOf o)) (next .from + next .size) end
 
 -- what a Bad format TLV asks: its code is a byte, there are few commands before it, and it has room after the R-APDUs that are kept
 pub record StepBadAsks (code : ℕ) (before : Gathered) (out : List ℕ) : Type 0 where

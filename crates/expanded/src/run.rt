@@ -25,7 +25,7 @@ ghost use Rattle.command.specs.Promised.{OutcomeFits};
 ghost use Rattle.step.specs.Limits.{longestScript, rapduSize};
 ghost use Rattle.expanded.specs.Expanded as spec;
 ghost use Rattle.expanded.specs.Capdu.{capduCommand};
-ghost use Rattle.expanded.specs.Promised.{CapduFits, CapduLies, Reaches, RunAsks, StepBadAsks, nextAt, placeAfter};
+ghost use Rattle.expanded.specs.Promised.{CapduFits, CapduLies, Reaches, RunAsks, StepBadAsks, nextAt, nextPlace};
 
 // The bytes that a script's R-APDUs are gathered in: 1,000, and the R-APDU of a last command without data.
 pub const ROOM_TO_GATHER: usize = 1004;
@@ -114,7 +114,7 @@ fn next_at(script: &[u8], at: usize, end: usize) -> Next
 // Returns what stands where a script goes on: after a C-APDU, or at the end of the value where its outcome stops the script.
 fn next_after(script: &[u8], capdu: Next, o: Outcome, end: usize) -> Next
     requires { ⌜ (capdu .from + capdu .size ≤ end) × (end ≤ length (now script)) ⌝ }
-    ensures { λ r. ⌜ (r ≡ nextAt (now (script .entry)) (placeAfter capdu o end) end) × (r .«is_capdu» ≡ true → CapduLies end r) ⌝ }
+    ensures { λ r. ⌜ (r ≡ nextAt (now (script .entry)) (nextPlace capdu o end) end) × (r .«is_capdu» ≡ true → CapduLies end r) ⌝ }
 {
     if goes_on(word_of(o)) {
         return next_at(script, capdu.from + capdu.size, end);

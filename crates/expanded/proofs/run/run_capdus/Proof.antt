@@ -93,7 +93,7 @@ use Rattle.expanded.specs.declared.run.Reached.{Reached}
 use Rattle.expanded.specs.Capdu.{capduCommand}
 use Rattle.expanded.specs.Expanded.{gatheredOf}
 use Rattle.expanded.specs.Expanded as spec
-use Rattle.expanded.specs.Promised.{CapduFits, CapduLies, Reaches, RunAsks, nextAt, placeAfter}
+use Rattle.expanded.specs.Promised.{CapduFits, CapduLies, Reaches, RunAsks, nextAt, nextPlace}
 use Rattle.expanded.proofs.Going.{Going, begins, reaches}
 use Rattle.expanded.proofs.Turns.{at-place, asks, gather-asks, goes-on, further}
 use Rattle.expanded.proofs.run.Gathered as G
@@ -525,9 +525,9 @@ module _ {M : Type 1} (𝓤 : URA M) (H : Heap 𝓤) (A : Atoms 𝓤) (W : Given
         gather-asked : Asked t reading «data» counts l s
         gather-asked = gather-asks (t .going) (t .there) on (t .lies on) (read .0) (read .1) had (t .long ∙ asked .0 .room) keep (s .said .0) (s .said .1)
 
-        module _ {w : Val} (b : Put t reading «data» counts l s w) (next : Next) (stands : Stands (placeAfter (t .next) (s .ended .outcome) end) next) {x : Val} (is-next : Is X.the-row next (x ∷ [])) where
-          place : placeAfter (t .next) (s .ended .outcome) end ≡ next .at
-          place = at-place (now script) (placeAfter (t .next) (s .ended .outcome) end) end (stands .0)
+        module _ {w : Val} (b : Put t reading «data» counts l s w) (next : Next) (stands : Stands (nextPlace (t .next) (s .ended .outcome) end) next) {x : Val} (is-next : Is X.the-row next (x ∷ [])) where
+          place : nextPlace (t .next) (s .ended .outcome) end ≡ next .at
+          place = at-place (now script) (nextPlace (t .next) (s .ended .outcome) end) end (stands .0)
 
           next-going : Going (now script) definite at end application domain card₀ (card-of (s .bytes)) (b .buffer) (gatheredOf (step-of (s .session) (s .ended)) (b .rapdus)) (next .at)
           next-going =
@@ -733,7 +733,7 @@ module _ {M : Type 1} (𝓤 : URA M) (H : Heap 𝓤) (A : Atoms 𝓤) (W : Given
             -- the next place
             use2 W (raw (AfterOn 𝓤 H A at-mem run .pre (to-after (t .next) (s .ended .outcome))) ⊛ ‵ Script) (goes-after (t .next) (t .is-next) (s .ended .outcome) is-outcome (lies .inside)) $ split ! $
             calls-at-last ! fm (AfterOn 𝓤 H A at-mem run) (known .after) (to-after (t .next) (s .ended .outcome)) (and-then ! (load ! (from ! (stop !)) (look ! 78 refl)) (and-then ! (load ! (from ! (stop !)) (look ! 51 refl)) (and-then ! (load ! (from ! (fld ! {τ = O′.mir} {d = 0} refl (stop !))) (look-in ! 55 (sub ! 0 {τ = O′.mir} {d = 0} refl (whole !)))) (and-then ! (load ! (from ! (stop !)) (look ! 72 refl)) (no-more !))))) (λ u₆.
-            comes-back ! tt next-after.ended (next-after.clauses 𝓤 H A at-mem run) (to-after (t .next) (s .ended .outcome) .0) tt u₆ (Stands (placeAfter (t .next) (s .ended .outcome) end)) (λ i e. id⊢ 𝓤 _) (λ next there is₆.
+            comes-back ! tt next-after.ended (next-after.clauses 𝓤 H A at-mem run) (to-after (t .next) (s .ended .outcome) .0) tt u₆ (Stands (nextPlace (t .next) (s .ended .outcome) end)) (λ i e. id⊢ 𝓤 _) (λ next there is₆.
             land-last ! (from ! (stop !)) (store ! 52 refl (LL.lawful X.the-type X′.the-laws 𝓤 H A W .typed next _ is₆ .0)) $
             drop ! $ use1 W (‵ Tok) (fst∗ 𝓤 (sem 𝓤 H A Tok) (emp 𝓤)) $
             rewrite ! 51 (λ (w : Val). ‵ (fat fullShare X′.mir l₁₅ 0 w)) (ap only (X′.lowers .val-is next _ is₆)) refl $
