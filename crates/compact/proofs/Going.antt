@@ -1,4 +1,9 @@
--- A compact script between two commands: what is left from here is the whole run. Assumes nothing.
+-- A compact script between two commands: what is left from here is the whole run.
+-- The definition `runFrom` counts its commands down, and the code loops. `Going` says that for some count which is enough for the bytes
+-- that are left, the run from this place and step is the whole run. One unfolding gives each case of a command: it stops the script
+-- (`stop`), or the script goes on behind it (`on`). `moves` joins the two: a script that stops goes on at its own end, where nothing is
+-- left to run, so that a loop over it has one way out, `ends`. A command takes at least a byte, so the place is further on (`further`),
+-- the count stays enough, and there are never more commands than bytes read. Assumes nothing.
 use mathlib.Core.Path.{_≡_, refl, sym, ap, subst, _∙_}
 use mathlib.Core.Bool.{Bool, true, false}
 use mathlib.Core.List.{List}
@@ -74,7 +79,7 @@ module _ {script : List ℕ} {application domain : ℕ} {card₀ : Card} where
       same-end : {b : Bool} → goesOn (wordOf (next .outcome)) ≡ b → goesOn (wordOf (stepAt script domain at (stateOf step card) .step .outcome)) ≡ b
       same-end h = ap (λ (st : State). goesOn (wordOf (st .step .outcome))) (sym e) ∙ h
 
-      pub stops : goesOn (wordOf (next .outcome)) ≡ false → stateOf next after ≡ run script application domain card₀
+      stops : goesOn (wordOf (next .outcome)) ≡ false → stateOf next after ≡ run script application domain card₀
       stops off = e ∙ sym (stop script domain at (stateOf step card) more (g .fuel) (g .enough) (same-end off)) ∙ g .whole
 
       module _ (fits : ReadingFits script at reading) where
@@ -89,7 +94,7 @@ module _ {script : List ℕ} {application domain : ℕ} {card₀ : Card} where
             subst (λ (st : State). Holds (takenBack card₀) (st .step .session) (st .card)) (sym did)
             (command-holds (takenBack card₀) (step .session) card (g .holds) Compact domain (reading .command) _ (rw length-take (omega (arith, fits .bytes .brief))))
 
-        pub goes : goesOn (wordOf (next .outcome)) ≡ true → Going script application domain card₀ after next (placeAfter reading)
+        goes : goesOn (wordOf (next .outcome)) ≡ true → Going script application domain card₀ after next (placeAfter reading)
         goes going =
             let there = rw is at fits in
             let k = on script domain at (stateOf step card) more (g .fuel) (g .enough) (there .further) (same-end going) in
