@@ -1,4 +1,4 @@
--- Demand 2: the commands of a script, the fresh start, errors, the marked cases, and the places of a cyclic file's records. Assumes
+-- Demand 2: detection, the commands of a script, the fresh start, errors, the marked cases, and the places of a cyclic file's records. Assumes
 -- nothing.
 use Prim.Native.Nat.{ℕ, _<_}
 use mathlib.Core.Path.{refl}
@@ -6,6 +6,7 @@ use Rattle.card.specs.Records.{cyclicPlace, recordPlace, recordOffset}
 use Rattle.card.proofs.Places.{newest-first, one-number, some-number, new-first, new-shifts}
 use Rattle.demands.specs.Demand2.{Cyclic, Demand2}
 use Rattle.demands.proofs.LawsRefused.{run-done}
+use Rattle.demands.proofs.Detection.{detection}
 use Rattle.demands.proofs.Commands.{compact-runs, expanded-runs}
 use Rattle.demands.proofs.AllRead.{all-commands, all-pieces}
 use Rattle.demands.proofs.Fresh.{fresh}
@@ -30,6 +31,7 @@ pub demand2 : Demand2
 demand2 =
     record {
       accepted = run-done;
+      detection = detection;
       compact = compact-runs;
       expanded = expanded-runs;
       allCommands = all-commands;

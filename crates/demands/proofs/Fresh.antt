@@ -74,9 +74,9 @@ module _ (script : List ℕ) (application domain : ℕ) (card : Card) (r : Read)
       ∙ one-only (commandDone domain) wordGoesOn (started application card) (commandsOf script) r rs first (ap wordGoesOn command-fails)
       ∙ command-fails
 
-compact-fresh : (a : Arguments) (c : Card) (r : Read) (rs : List Read) → number (resultOf (running a) c) ≡ 0 → a .format ≡ 0 → commandsOf (a .script) ≡ r ∷ rs
+compact-fresh : (a : Arguments) (c : Card) (r : Read) (rs : List Read) → number (resultOf (running a) c) ≡ 0 → formatOf (a .format) (a .script) ≡ Compact → commandsOf (a .script) ≡ r ∷ rs
     → WorksOnFile (firstSituation Compact a r c) → resultOf (running a) c ≡ oneCommand c (hex "016986") (a .response)
-unfolding runScript accepted compact.answer oneCommand stopped started stepped carriedOut failed checkWord perform dataOf bytes2 hex digit pick formatOf
+unfolding runScript accepted compact.answer oneCommand stopped started stepped carriedOut failed checkWord perform dataOf bytes2 hex digit pick
 compact-fresh a c r rs ok f first works =
     run-done a c ok
     ∙ rw (f, compact-stops (a .script) (a .application) (a .domain) (withMark c) r rs first works)
@@ -119,11 +119,11 @@ template-answer (Definite at end) p application c response e f = rw (e, f)
 template-answer (Indefinite at end) p application c response e f = rw (e, f)
 template-answer Missing p application c response e f = rw e
 
-expanded-fresh : (a : Arguments) (c : Card) (bytes : List ℕ) (pieces : List Piece) → number (resultOf (running a) c) ≡ 0 → a .format ≡ 1
+expanded-fresh : (a : Arguments) (c : Card) (bytes : List ℕ) (pieces : List Piece) → number (resultOf (running a) c) ≡ 0 → formatOf (a .format) (a .script) ≡ Expanded
     → piecesOf (templateOf (a .script)) (a .script) ≡ capdu bytes ∷ pieces
     → WorksOnFile (firstSituation Expanded a (readIn bytes (capduCommand bytes)) c)
     → resultOf (running a) c ≡ oneCommand c (noFile (templateOf (a .script))) (a .response)
-unfolding runScript formatOf pick progressAfter
+unfolding runScript progressAfter
 expanded-fresh a c bytes pieces ok f first works =
     let t = templateOf (a .script) in
     let p = pieceDone (isDefinite t) (a .domain) (begun (a .application) (withMark c)) (capdu bytes) in

@@ -16,7 +16,7 @@ use Rattle.journal.proofs.Behind.{behind-less}
 use Rattle.journal.proofs.Written.{sound-writable}
 use Rattle.journal.proofs.Cut.{cut-length, cut-scripts, cut-used}
 use Rattle.journal.proofs.Kept.{taken-alike, taken-sound}
-use Rattle.engine.specs.Numbers.{Arguments, applicationFits, argumentsFit}
+use Rattle.engine.specs.Numbers.{Arguments, formatKnown, applicationFits, argumentsFit}
 use Rattle.engine.specs.Calls.{numbered, run}
 use Rattle.demands.specs.Called.{Call, running, takingBack, confirming, resultOf, number, lentResponse, seen}
 use Rattle.engine.proofs.Answers.{confirm-done}
@@ -47,7 +47,7 @@ module _ (c : Card) (sound : soundCard c ≡ true) where
   unfolding argumentsFit applicationFits
   arguments-back a =
       let r = taken-alike c sound .rows in
-      λ i. leb (a .format) 1 && ((eqb (a .application) 0 || (ltb (a .application) (r .sameEntries i) && isADF (r .alike (a .application) i))) && (eqb (a .domain) 0x00 || eqb (a .domain) 0xFF))
+      λ i. formatKnown (a .format) && ((eqb (a .application) 0 || (ltb (a .application) (r .sameEntries i) && isADF (r .alike (a .application) i))) && (eqb (a .domain) 0x00 || eqb (a .domain) 0xFF))
 
 -- what a number other than 5 stands for still holds where a mark fits wherever it fitted before
 module _ (s a f : Bool) (long least : ℕ) (m m′ t : Bool) (more : m ≡ true → m′ ≡ true) where

@@ -3,6 +3,7 @@ pub mod LawsTaken
 pub mod LawsAlike
 pub mod History
 pub mod Demand1
+pub mod Detection
 pub mod Commands
 pub mod AllRead
 pub mod Fresh

@@ -9,10 +9,11 @@ use Rattle.card.specs.Row.{Card, entries, entry, rowOf}
 use Rattle.card.specs.Tree.{rootOf}
 use Rattle.tlv.specs.Templates.{templateOf}
 use Rattle.journal.specs.Changes.{withMark}
+use Rattle.command.specs.declared.Format.the-variants.{Compact, Expanded}
 use Rattle.command.specs.declared.Outcome.the-variants.{FromFiles}
 use Rattle.step.specs.Steps.{State}
 use Rattle.expanded.specs.Expanded.{Progress}
-use Rattle.engine.specs.Numbers.{Arguments}
+use Rattle.engine.specs.Numbers.{Arguments, formatOf}
 use Rattle.demands.specs.Commands.{statesAfter, progressAfter}
 
 -- what holds of each of a list
@@ -53,10 +54,10 @@ pub record Within (root : ℕ) (st : State) : Type 0 where
 -- applications are as they were
 pub record Apart (a : Arguments) (c after : Card) : Type 0 where
   pub compact :
-      a .format ≡ 0
+      formatOf (a .format) (a .script) ≡ Compact
       → Every (Within (a .application)) (statesAfter (a .script) (a .application) (a .domain) (withMark c))
   pub expanded :
-      a .format ≡ 1
+      formatOf (a .format) (a .script) ≡ Expanded
       → Every
       (λ (p : Progress). Within (a .application) (p .state))
       (progressAfter (templateOf (a .script)) (a .script) (a .application) (a .domain) (withMark c))

@@ -2,8 +2,8 @@
 -- the ground of ETSI TS 102 226 and TS 102 221: the same commands run, the same status, the same count, the same stopping place."
 --
 -- What a call gives is said in `Calls`, and the contracts of the three calls cite it for the answer and for every byte of each lent
--- memory. Here stands what it comes to: the commands that run and their count, the fresh start, that an error changes nothing, the
--- marked cases, the cyclic law.
+-- memory. Here stands what it comes to: detection, the commands that run and their count, the fresh start, that an error changes
+-- nothing, the marked cases, the cyclic law.
 use Prim.Native.Nat.{ℕ, _+_, _-_, _*_, _%_, _≤_, _<_}
 use mathlib.Core.Bool.{Bool}
 use mathlib.Core.List.{List, [], _∷_}
@@ -35,7 +35,7 @@ use Rattle.compact.specs.Compact as compact
 use Rattle.expanded.specs.Capdu.{capduCommand}
 use Rattle.expanded.specs.Expanded as expanded
 use Rattle.expanded.specs.Expanded.{Progress, begun}
-use Rattle.engine.specs.Numbers.{Arguments, formatOf}
+use Rattle.engine.specs.Numbers.{Arguments, detected, formatOf}
 use Rattle.engine.specs.Calls.{Result, gives, runScript}
 use Rattle.demands.specs.Called.{running, resultOf, number}
 use Rattle.demands.specs.Commands.{lastOf, Read, readIn, commandsFrom, commandsOf, commandDone, statesAfter, Piece, capdu, piecesIn, piecesOf, pieceDone, progressAfter}
@@ -102,14 +102,32 @@ pub record Fresh (c : Card) (a : Arguments) : Type 0 where
   pub waiting : started (a .application) (withMark c) .step .session .waiting ≡ zeros 255
   pub compact :
       (r : Read) (rs : List Read)
-      → a .format ≡ 0 → commandsOf (a .script) ≡ r ∷ rs
+      → formatOf (a .format) (a .script) ≡ Compact → commandsOf (a .script) ≡ r ∷ rs
       → WorksOnFile (firstSituation Compact a r c)
       → resultOf (running a) c ≡ oneCommand c (hex "016986") (a .response)
   pub expanded :
       (bytes : List ℕ) (pieces : List Piece)
-      → a .format ≡ 1 → piecesOf (templateOf (a .script)) (a .script) ≡ capdu bytes ∷ pieces
+      → formatOf (a .format) (a .script) ≡ Expanded → piecesOf (templateOf (a .script)) (a .script) ≡ capdu bytes ∷ pieces
       → WorksOnFile (firstSituation Expanded a (readIn bytes (capduCommand bytes)) c)
       → resultOf (running a) c ≡ oneCommand c (noFile (templateOf (a .script))) (a .response)
+
+-- ---- detection
+
+-- the format number of a format
+unfoldable pub formatNumber : Format → ℕ
+formatNumber Compact = 0
+formatNumber Expanded = 1
+
+-- the same arguments, with the number of the format that is found in the script
+unfoldable pub asFound : Arguments → Arguments
+asFound a =
+    record {
+      application = a .application;
+      domain = a .domain;
+      format = formatNumber (detected (a .script));
+      script = a .script;
+      response = a .response;
+    }
 
 -- ---- "A command ends well, with or without data, or with an error word, changing nothing."
 
@@ -149,6 +167,9 @@ pub record Demand2 : Type 0 where
   pub accepted :
       (a : Arguments) (c : Card) → number (resultOf (running a) c) ≡ 0
       → resultOf (running a) c ≡ runScript (formatOf (a .format) (a .script)) a (withMark c)
+  -- a run with format 2 gives what the run with the number of the format found gives, answer, card and response memory: "and the answer
+  -- has the form found"
+  pub detection : (a : Arguments) (c : Card) → a .format ≡ 2 → resultOf (running a) c ≡ resultOf (running (asFound a)) c
   -- the same commands run, with the same count and stopping place
   pub compact : (script : List ℕ) (application domain : ℕ) (card : Card) → CompactRuns script application domain card
   pub expanded :

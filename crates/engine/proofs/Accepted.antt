@@ -26,7 +26,7 @@ use Rattle.journal.proofs.Kept.{mark-sound}
 use Rattle.command.specs.declared.Format.{Format}
 use Rattle.command.specs.declared.Format.the-variants.{Compact, Expanded}
 use Rattle.step.specs.Limits.{longestScript}
-use Rattle.engine.specs.Numbers.{Arguments, formatOf, scriptFits, firstGiven, runRefusals}
+use Rattle.engine.specs.Numbers.{Arguments, formatOf, formatKnown, scriptFits, firstGiven, runRefusals}
 use Rattle.engine.specs.Calls.{Result, gives, numbered, unlessRefused, runValue, runScript, run}
 use Rattle.engine.specs.Promised.{RunScriptAsks}
 use Rattle.engine.proofs.RunNumbers.{RunMet, is-met}
@@ -54,7 +54,7 @@ module _ (c : Card) (a : Arguments) (none : firstGiven (runRefusals c a) ≡ 0) 
   mark-room = room-left (c .table) (c .files) (c .journal) _ (card-parts c is-sound) (leb-true _ _ (and-right (ltb (scriptsOnTrial (c .journal)) mostScripts) _ (found .4)))
 
   application : (ltb (a .application) (entries (c .table)) && isRoot (rowOf (c .table) (a .application))) ≡ true
-  application = and-left _ _ (and-right (leb (a .format) 1) _ (sym (arguments-root (c .table) (c .files) (card-table c is-sound) a) ∙ found .1))
+  application = and-left _ _ (and-right (formatKnown (a .format)) _ (sym (arguments-root (c .table) (c .files) (card-table c is-sound) a) ∙ found .1))
 
   inside : a .application < entries (c .table)
   inside = ltb-true (a .application) (entries (c .table)) (and-left _ _ application)

@@ -4,13 +4,13 @@ use mathlib.Core.Bool.{Bool, true, false, _&&_, _||_}
 use mathlib.Core.List.{List}
 use Prim.Native.Nat.{ℕ}
 use native.Mathlib.Omega.{arith}
-use lib.Dec.{leb, ltb, eqb}
+use lib.Dec.{ltb, eqb}
 use borrow.Author.Tests.{eqb-true, eqb-false, ltb-true, lt-ltb, ne-eqb}
 use Rattle.card.specs.Row.{entries, rowOf}
 use Rattle.card.specs.Sound.{soundTable}
 use Rattle.card.specs.Tree.{isRoot}
 use Rattle.card.proofs.Promises.{some-entries, first-kind, other-kind}
-use Rattle.engine.specs.Numbers.{Arguments, applicationFits, argumentsFit}
+use Rattle.engine.specs.Numbers.{Arguments, formatKnown, applicationFits, argumentsFit}
 
 -- in a sound table, 0 and the ADFs are the roots
 module _ (t files : List ℕ) (sound : soundTable t files ≡ true) (a : ℕ) where
@@ -24,6 +24,6 @@ module _ (t files : List ℕ) (sound : soundTable t files ≡ true) (a : ℕ) wh
       by false false z i = rw (z, i)
 
 pub arguments-root : (t files : List ℕ) → soundTable t files ≡ true → (a : Arguments)
-    → argumentsFit t a ≡ (leb (a .format) 1 && ((ltb (a .application) (entries t) && isRoot (rowOf t (a .application))) && (eqb (a .domain) 0x00 || eqb (a .domain) 0xFF)))
+    → argumentsFit t a ≡ (formatKnown (a .format) && ((ltb (a .application) (entries t) && isRoot (rowOf t (a .application))) && (eqb (a .domain) 0x00 || eqb (a .domain) 0xFF)))
 unfolding argumentsFit
 arguments-root t files sound a = rw (application-root t files sound (a .application))

@@ -7,8 +7,8 @@ use Prim.Native.Nat.{ℕ, _≤_}
 use native.Mathlib.Omega.{arith}
 use lib.Dec.{eqb}
 use lib.ListN.{length}
-use borrow.Author.Tests.{eqb-true, eqb-false, not-false}
-use Rattle.octets.proofs.Picks.{eq-yes, eq-no, on-pick, either}
+use borrow.Author.Tests.{eqb-true, eqb-false, leb-true, not-false}
+use Rattle.octets.proofs.Picks.{eq-yes, eq-no, on-pick, either, and-left}
 use Rattle.card.specs.Row.{Card}
 use Rattle.tlv.specs.declared.template.Template.{Template}
 use Rattle.tlv.specs.declared.template.Template.the-variants.{Definite, Indefinite, Missing}
@@ -20,6 +20,11 @@ use Rattle.engine.specs.declared.numbers.Start.{Start}
 use Rattle.engine.specs.declared.numbers.Start.the-variants as starts
 use Rattle.engine.specs.Numbers.{Arguments, formatOf, argumentsFit, scriptFits, leastResponse, isMissing, templateFits, firstGiven, runRefusals, templateStart, scriptStart, startOf}
 use Rattle.engine.proofs.RunNumbers.{RunMet, meets, is-met}
+
+-- a script of a length that is taken has a first byte
+pub has-first : (script : List ℕ) → scriptFits script ≡ true → 1 ≤ length script
+unfolding scriptFits
+has-first script e = leb-true 1 (length script) (and-left _ _ e)
 
 -- a script without the template that its format asks for
 template-refused : (t : Template) → isMissing t ≡ true → templateStart t ≡ starts.Refused 6

@@ -5,6 +5,7 @@ use mathlib.Core.List.{List, [], _∷_}
 use lib.ListN.{length}
 use lib.Dec.{leb, ltb, eqb}
 use Rattle.octets.specs.Choice.{pick}
+use Rattle.octets.specs.Bytes.{byte}
 use Rattle.card.specs.Row.{Card, entries, rowOf, isADF}
 use Rattle.tlv.specs.declared.template.Template.{Template}
 use Rattle.tlv.specs.declared.template.Template.the-variants.{Definite, Indefinite, Missing}
@@ -30,18 +31,27 @@ pub record Refusal : Type 0 where
   pub number : ℕ
   pub given : Bool
 
--- the format of a script: that of its format number, 0 (compact) or 1 (expanded)
+-- "a script that starts with AA or AE is expanded, any other compact"
+unfoldable pub detected : List ℕ → Format
+detected script = pick (eqb (byte script 0) 0xAA || eqb (byte script 0) 0xAE) Expanded Compact
+
+-- the format of a run: by its format number, "0 (compact) or 1 (expanded)", or the one found in its script: "Add format 2, detection as in
+-- clause 5.3 of source document 003"
 unfoldable pub formatOf : ℕ → List ℕ → Format
-formatOf format script = pick (eqb format 0) Compact Expanded
+formatOf format script = pick (eqb format 0) Compact (pick (eqb format 1) Expanded (detected script))
+
+-- whether a format number is known: "Refusals: number 2's format is now one above 2"
+abbrev pub formatKnown : ℕ → Bool
+formatKnown format = leb format 2
 
 -- "application neither 0 (shared files) nor an ADF's entry number"
 unfoldable pub applicationFits : List ℕ → ℕ → Bool
 applicationFits t application = eqb application 0 || (ltb application (entries t) && isADF (rowOf t application))
 
--- "format not 0 (compact) or 1 (expanded); or application ..; or access domain neither 00 nor FF"
+-- "format not ..; or application ..; or access domain neither 00 nor FF"
 unfoldable pub argumentsFit : List ℕ → Arguments → Bool
 argumentsFit t a =
-    leb (a .format) 1
+    formatKnown (a .format)
     && (applicationFits t (a .application) && (eqb (a .domain) 0x00 || eqb (a .domain) 0xFF))
 
 -- "script length not 1 to 1,024"
@@ -59,7 +69,7 @@ isMissing (Definite at end) = false
 isMissing (Indefinite at end) = false
 isMissing Missing = true
 
--- "expanded, and no template as below"
+-- "expanded, and no template as below"; "6 also applies to a script found to be expanded."
 unfoldable pub templateFits : Format → List ℕ → Bool
 templateFits Compact script = true
 templateFits Expanded script = not (isMissing (templateOf script))

@@ -6,8 +6,8 @@ use tlv::template::template_of;
 ghost use mathlib.Core.Path.{_≡_};
 ghost use mathlib.Core.Bool.{_&&_, _||_};
 ghost use mathlib.Core.List.{List};
-ghost use Prim.Native.Nat.{ℕ};
-ghost use lib.Dec.{leb, ltb, eqb};
+ghost use Prim.Native.Nat.{ℕ, _≤_};
+ghost use lib.Dec.{ltb, eqb};
 ghost use lib.ListN.{length};
 ghost use Rattle.card.specs.Row.{lent, entries, rowOf};
 ghost use Rattle.card.specs.Tree.{isRoot};
@@ -23,14 +23,29 @@ pub enum Start {
     Indefinite(usize, usize),
 }
 
-// Returns the format of a script that is called with a format number.
+// Returns the format that a script is found to have: expanded where it starts with AA or AE.
+fn detected(script: &[u8]) -> Format
+    requires { ⌜ 1 ≤ length (now script) ⌝ }
+    ensures { λ f. ⌜ f ≡ spec.detected (now (script .entry)) ⌝ }
+{
+    if (script[0] == 0xAA) | (script[0] == 0xAE) {
+        return Format::Expanded;
+    }
+    Format::Compact
+}
+
+// Returns the format of a run by its format number: compact, expanded, or the one that its script is found to have.
 fn format_of(format: u8, script: &[u8]) -> Format
+    requires { ⌜ 1 ≤ length (now script) ⌝ }
     ensures { λ f. ⌜ f ≡ spec.formatOf format (now (script .entry)) ⌝ }
 {
     if format == 0 {
         return Format::Compact;
     }
-    Format::Expanded
+    if format == 1 {
+        return Format::Expanded;
+    }
+    detected(script)
 }
 
 // Returns how many bytes of response memory a format needs at least.
@@ -57,9 +72,9 @@ fn is_application(table: &[u8], application: usize) -> bool
 // Whether format, application and access domain are known.
 fn arguments_fit(table: &[u8], application: usize, domain: u8, format: u8) -> bool
     requires { ⌜ ParentsSmaller (now table) ⌝ }
-    ensures { λ b. ⌜ b ≡ (leb format 1 && ((ltb application (entries (now (table .entry))) && isRoot (rowOf (now (table .entry)) application)) && (eqb domain 0x00 || eqb domain 0xFF))) ⌝ }
+    ensures { λ b. ⌜ b ≡ (spec.formatKnown format && ((ltb application (entries (now (table .entry))) && isRoot (rowOf (now (table .entry)) application)) && (eqb domain 0x00 || eqb domain 0xFF))) ⌝ }
 {
-    (format <= 1) & (is_application(table, application) & ((domain == 0x00) | (domain == 0xFF)))
+    (format <= 2) & (is_application(table, application) & ((domain == 0x00) | (domain == 0xFF)))
 }
 
 // Whether a script has 1 to 1,024 bytes.

@@ -18,7 +18,7 @@ use Rattle.journal.proofs.Parts.{card-parts, card-table}
 use Rattle.command.specs.declared.Format.{Format}
 use Rattle.engine.specs.Numbers.{Arguments, argumentsFit, scriptFits, leastResponse, formatOf, scriptStart}
 use Rattle.engine.specs.Promised.{StartFits}
-use Rattle.engine.proofs.Starts.{refused-start, script-start}
+use Rattle.engine.proofs.Starts.{has-first, refused-start, script-start}
 use Rattle.engine.proofs.Refusals.{arguments-root}
 use Rattle.engine.proofs.numbers.start_of.Statement.{statement}
 use Rattle.engine.proofs.numbers.start_of.Tie as tie
@@ -108,7 +108,7 @@ returns-3 c =
     (λ response e. refused-start _ _ 3 (omega arith) (sound (first two), known two response, told-false (c .before .script-fits .ensures) (c .if3 .taken)), tt)
 
 format-of-requires : tie.Need-format-of-requires
-format-of-requires c κs = search needs
+format-of-requires c κs = has-first _ (script c)
 
 least-response-requires : tie.Need-least-response-requires
 least-response-requires c κs = search needs
