@@ -39,7 +39,7 @@
  * no repair after a power cut, which will add to the calls and to their numbers; until
  * then the second number rises with each change that a caller can see. */
 #define RFM_VERSION_MAJOR 0
-#define RFM_VERSION_MINOR 1
+#define RFM_VERSION_MINOR 2
 #define RFM_VERSION_PATCH 0
 
 /* What the caller must look at. */
@@ -167,7 +167,11 @@ RFM_MUST_USE static inline uint32_t rfm_on_trial(const struct rfm_journal *journ
 /* ---- The calls ---- */
 
 /* Formats of a script, and access domains. */
-enum rfm_format { RFM_COMPACT = 0, RFM_EXPANDED = 1 };
+enum rfm_format {
+    RFM_COMPACT = 0,
+    RFM_EXPANDED = 1,
+    RFM_DETECT = 2 /* expanded if it starts with AA or AE, else compact */
+};
 enum rfm_domain { RFM_FULL_ACCESS = 0x00, RFM_NO_ACCESS = 0xFF };
 
 /* What a run is asked to do. A member that an initialiser leaves out is 0: the
@@ -177,8 +181,19 @@ struct rfm_script {
     size_t length;
     size_t application; /* 0 for the shared files, or an ADF's entry number */
     uint8_t domain;     /* RFM_FULL_ACCESS or RFM_NO_ACCESS */
-    uint8_t format;     /* RFM_COMPACT or RFM_EXPANDED */
+    uint8_t format;     /* RFM_COMPACT, RFM_EXPANDED or RFM_DETECT */
 };
+
+/* The form of a script and of its answer, RFM_COMPACT or RFM_EXPANDED: the one that is
+ * named, or by RFM_DETECT the one that is found. */
+RFM_MUST_USE static inline enum rfm_format rfm_form(const struct rfm_script *script)
+{
+    if (script->format != RFM_DETECT)
+        return script->format == RFM_EXPANDED ? RFM_EXPANDED : RFM_COMPACT;
+    if (script->length == 0) /* it is refused */
+        return RFM_COMPACT;
+    return script->bytes[0] == 0xAA || script->bytes[0] == 0xAE ? RFM_EXPANDED : RFM_COMPACT;
+}
 
 /* Call numbers, tested in this order: 1 to 6 by a run, 1 and 7 by a take-back, 1 by
  * a confirmation. Any but 0 comes with count 0 and length 0, and no lent byte has
@@ -190,7 +205,7 @@ enum rfm_number {
     RFM_SCRIPT_LENGTH = 3,   /* not 1 to 1,024 bytes */
     RFM_SMALL_RESPONSE = 4,  /* response memory below 1,024 bytes */
     RFM_NO_TRIAL_ROOM = 5,   /* 16 scripts on trial, or no 8 bytes left in the journal */
-    RFM_NO_TEMPLATE = 6,     /* expanded script that is no template */
+    RFM_NO_TEMPLATE = 6,     /* script that is expanded, or found to be, and no template */
     RFM_NOTHING_ON_TRIAL = 7 /* nothing to take back */
 };
 

@@ -9,8 +9,8 @@ const char *rfm_number_text(uint32_t number)
     case RFM_NOT_SOUND:
         return "table, file memory or journal is not sound";
     case RFM_WRONG_ARGUMENT:
-        return "the format is not 0 or 1, the application is neither 0 nor an ADF's entry number, "
-               "or the access domain is neither 00 nor FF";
+        return "the format is not 0, 1 or 2, the application is neither 0 nor an ADF's entry "
+               "number, or the access domain is neither 00 nor FF";
     case RFM_SCRIPT_LENGTH:
         return "the script has not 1 to 1,024 bytes";
     case RFM_SMALL_RESPONSE:
@@ -18,7 +18,7 @@ const char *rfm_number_text(uint32_t number)
     case RFM_NO_TRIAL_ROOM:
         return "16 scripts are on trial, or the journal has no room for a mark";
     case RFM_NO_TEMPLATE:
-        return "an expanded script has no template";
+        return "a script that is expanded, or found to be, has no template";
     case RFM_NOTHING_ON_TRIAL:
         return "a take-back with no script on trial";
     default:

@@ -15,7 +15,6 @@
 
 #include "rfm.h"
 
-enum { COMPACT = 0, EXPANDED = 1 };
 enum { MOST_BYTES = 32768, HEADER_SIZE = 5, RESPONSE_SIZE = 1024 };
 enum { TAG_AE = 0xAE, TAG_AF = 0xAF, TAG_R_APDU = 0x23 };
 
@@ -32,10 +31,11 @@ struct outcome {
     bool no_command; /* where a TLV was no command */
 };
 
-/* The card, and the script with how it is run. */
+/* The card, the script with how it is run, and its form. */
 static struct bytes table, files, journal, script;
 static size_t application;
 static uint8_t domain, format;
+static enum rfm_format form;
 
 /* Says what is wrong and ends. */
 static _Noreturn void fail(const char *what, ...)
@@ -199,7 +199,7 @@ static size_t first_place(void)
 {
     size_t length;
 
-    if (format == COMPACT)
+    if (form == RFM_COMPACT)
         return 0;
     return script.at[0] == TAG_AE ? 2 : value_of(&script, 0, &length);
 }
@@ -212,7 +212,7 @@ static size_t take_command(size_t place, struct bytes *command)
 
     if (place >= script.length)
         fail("the answer counts more commands than the script has");
-    if (format == EXPANDED)
+    if (form == RFM_EXPANDED)
         place = value_of(&script, place, &length);
     else if (memchr(with_data, script.at[place + 1], sizeof with_data) != NULL)
         length += script.at[place + 4];
@@ -229,7 +229,7 @@ static void cut_script(size_t end, struct bytes *shorter)
     const size_t first = first_place(), length = end - first;
 
     shorter->length = 0;
-    if (format == EXPANDED && script.at[0] != TAG_AE) {
+    if (form == RFM_EXPANDED && script.at[0] != TAG_AE) {
         add_number(shorter, script.at[0], 1);
         if (length >= 0x80)
             add_number(shorter, length < 0x100 ? 0x81 : 0x82, 1);
@@ -237,7 +237,7 @@ static void cut_script(size_t end, struct bytes *shorter)
         add_bytes(shorter, script.at + first, length);
     } else {
         add_bytes(shorter, script.at, end);
-        if (format == EXPANDED)
+        if (form == RFM_EXPANDED)
             add_number(shorter, 0x0000, 2);
     }
 }
@@ -247,7 +247,7 @@ static struct outcome last_outcome(const struct bytes *answer)
 {
     const uint8_t *at = answer->at;
 
-    if (format == COMPACT)
+    if (form == RFM_COMPACT)
         return (struct outcome){at + 3, answer->length - 3, at[1] * 256u + at[2], false};
     const size_t end = answer->length - (at[0] == TAG_AF ? 2 : 0);
     size_t last = 2, length = 0, place = 2; /* in AF */
@@ -347,6 +347,7 @@ int main(int count, char **arguments)
     take_worked_card();
     for (int i = 2; i < count; i++)
         read_argument(arguments[i]);
+    form = rfm_form(&(struct rfm_script){.bytes = script.at, .length = script.length, .format = format});
 
     const uint32_t commands = run(&script, &whole);
     size_t place = first_place();

@@ -1,7 +1,8 @@
 #!/usr/bin/env bash
 # Checks include/rfm.h: that C and C++ compilers and cppcheck have nothing to say of it, of include/rfm_text.c and of the
-# examples; that two memories swapped, or an answer not looked at, are refused; that its texts are README's tables and its
-# figures those of docs/MEASURES.md. Takes seconds and needs no library. Build products go to target/header/.
+# examples; that two memories swapped, or an answer not looked at, are refused; that a script's form is the one that the
+# rules say; that its texts are README's tables and its figures those of docs/MEASURES.md. Takes seconds and needs no
+# library. Build products go to target/header/.
 set -euo pipefail
 . "$(dirname "${BASH_SOURCE[0]}")/machine.sh"
 cd "$root"
@@ -69,7 +70,7 @@ int uses(struct rfm_entry *table, uint8_t *files, struct rfm_journal *journal, u
     rfm_take_back(files, 1, files, 1, files, 1);
 #endif
     result = rfm_card_run(&card, &script, response, RFM_LEAST_RESPONSE);
-    if (result.number == RFM_DONE && rfm_compact_word(response) != RFM_WORD_DONE)
+    if (result.number == RFM_DONE && rfm_form(&script) == RFM_COMPACT && rfm_compact_word(response) != RFM_WORD_DONE)
         result = rfm_card_take_back(&card);
     if (rfm_used(journal) > RFM_MOST_USED - 8 || rfm_on_trial(journal) == RFM_MOST_ON_TRIAL)
         result = rfm_card_confirm(&card);
@@ -110,6 +111,28 @@ for ((wrong = 1; wrong <= 10; wrong++)); do
         exit 1
     fi
 done
+
+# The form of a script: by its number, or expanded where it starts with AA or AE and compact else.
+cat > "$out/forms.c" <<'END'
+#include "rfm.h"
+
+int main(void)
+{
+    for (uint32_t first = 0; first < 0x100; first++) {
+        const uint8_t byte = (uint8_t)first;
+        const enum rfm_format found = byte == 0xAA || byte == 0xAE ? RFM_EXPANDED : RFM_COMPACT;
+        struct rfm_script script = {.bytes = &byte, .length = 1, .format = 2};
+        if (rfm_form(&script) != found)
+            return 1;
+        for (script.format = 0; script.format < 2; script.format++)
+            if (rfm_form(&script) != (script.format == 0 ? RFM_COMPACT : RFM_EXPANDED))
+                return 1;
+    }
+    return rfm_form(&(struct rfm_script){.bytes = NULL, .length = 0, .format = 2}) != RFM_COMPACT;
+}
+END
+gcc -Iinclude -o "$out/forms" "$out/forms.c"
+"$out/forms" || { echo "include/rfm.h: rfm_form gives a form that is not the script's" >&2; exit 1; }
 
 # The texts, by README's rows.
 cat > "$out/texts.c" <<'END'

@@ -7,6 +7,7 @@ room=$(mktemp -d)
 trap 'rm -rf "$room"' EXIT
 wrong=0
 card=application=0$'\n'domain=00$'\n'format=0$'\n'script=
+found=application=0$'\n'domain=00$'\n'format=2$'\n'script=
 answer=refusal=0$'\n'executed=1$'\n'response=019000$'\n'used=8$'\n'scripts=1$'\n'
 
 # Runs rfm: try WHAT INPUT STATUS OUTPUT ERROR WORD..
@@ -24,6 +25,8 @@ try() {
 
 bad=input=bad$'\n'
 try 'the example of the paper' "${card}00A4000C027F10\n" 0 "$answer" ''
+try 'a script found to be compact' "${found}00A4000C027F10\n" 0 "$answer" ''
+try 'a script found to be expanded' "${found}AA09220700A4000C027F10\n" 0 "${answer/019000/AB0780010123029000}" ''
 try 'no line feed at the end' "${card}00A4000C027F10" 0 "$answer" ''
 try 'a carriage return' 'application=0\ndomain=00\r\n' 0 "$bad" 'rfm: line 2 *carriage return*'
 try 'lower-case digits' "${card}00a4000C027F10\n" 0 "$bad" 'rfm: line 4 *upper-case*'
