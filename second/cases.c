@@ -39,9 +39,9 @@ static const char *needed(const char *line, const char *name)
 
 /* Whether an answer has this count: a compact one in front, one of AA (of less than 128 bytes) in
  * its first TLV; one of AE has none. */
-static bool has_count(const struct bytes *answer, uint8_t format, uint32_t count)
+static bool has_count(const struct bytes *answer, bool expanded, uint32_t count)
 {
-    if (format == COMPACT)
+    if (!expanded)
         return answer->at[0] == count;
     return answer->at[0] != 0xAB || answer->at[4] == count;
 }
@@ -83,7 +83,8 @@ static bool gives_stated(const char *line)
         return answer == strtoul(needed(line, " refused="), NULL, 10);
     set_hex(&stated, says);
     return SECOND_NUMBER(answer) == 0 && length == stated.length &&
-           memcmp(response, stated.at, length) == 0 && has_count(&stated, format, SECOND_COUNT(answer));
+           memcmp(response, stated.at, length) == 0 &&
+           has_count(&stated, is_expanded(format, &script), SECOND_COUNT(answer));
 }
 
 int main(void)

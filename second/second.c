@@ -1,4 +1,5 @@
-/* The second program. Each rule stands under the paper's own sentence. */
+/* The second program. Each rule stands under the paper's own sentence; one after K1 is that
+ * request's. */
 #include "second.h"
 
 #include <stdbool.h>
@@ -56,7 +57,7 @@ enum { AT_PLACE = 2, AT_N = 4 };
 /* The kinds of a journal entry. */
 enum { MARK = 1, FILE_BYTES = 2, TABLE_BYTE = 3 };
 
-enum { COMPACT = 0, EXPANDED = 1 };
+enum { COMPACT = 0, EXPANDED = 1, DETECT = 2 };
 enum { DOMAIN_OPEN = 0x00, DOMAIN_CLOSED = 0xFF };
 
 enum {
@@ -1337,6 +1338,15 @@ static bool is_application(const struct card *card, size_t application)
            (application < card->entries && entry_of(card, application)[AT_KIND] == ADF);
 }
 
+/* K1: "a script that starts with AA or AE is expanded, any other compact". The form of a script
+ * of 1 byte or more: its format, or with format 2 the one that its first byte shows. */
+static uint8_t form_found(uint8_t format, const uint8_t *script)
+{
+    if (format != DETECT)
+        return format;
+    return script[0] == TAG_AA || script[0] == TAG_AE ? EXPANDED : COMPACT;
+}
+
 /* "One library runs a remote file management script against a lent card". */
 uint64_t second_run(uint8_t *table, size_t table_length, uint8_t *files, size_t files_length,
                     uint8_t *journal, size_t journal_length, size_t application,
@@ -1351,21 +1361,25 @@ uint64_t second_run(uint8_t *table, size_t table_length, uint8_t *files, size_t 
     if (!lent_card_sound(&card, table, table_length, files, files_length, journal,
                          journal_length))
         return NOT_SOUND;
-    if ((format != COMPACT && format != EXPANDED) || !is_application(&card, application) ||
+    /* K1: "number 2's format is now one above 2". */
+    if (format > DETECT || !is_application(&card, application) ||
         (domain != DOMAIN_OPEN && domain != DOMAIN_CLOSED))
         return WRONG_ARGUMENT;
     if (script_length < 1 || script_length > MOST_SCRIPT)
         return WRONG_SCRIPT_LENGTH;
+    /* K1: "the answer has the form found"; "6 also applies to a script found to be expanded". So
+     * from here on nothing asks the format. */
+    const uint8_t form = form_found(format, script);
     if (response_length < LEAST_RESPONSE)
         return SMALL_RESPONSE;
     if (journal[AT_SCRIPTS] == MOST_SCRIPTS || number_at(journal) + TAIL_SIZE > MOST_USED)
         return NO_TRIAL_ROOM;
-    if (format == EXPANDED && !read_template(script, script_length, &expanded))
+    if (form == EXPANDED && !read_template(script, script_length, &expanded))
         return NO_TEMPLATE;
 
     append_mark(journal);
     start_session(&session, application, domain);
-    if (format == EXPANDED)
+    if (form == EXPANDED)
         return run_expanded(&card, &session, &expanded, response);
     return run_compact(&card, &session, script, script_length, response);
 }

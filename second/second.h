@@ -14,7 +14,7 @@
 #define SECOND_COUNT(answer)  ((uint32_t)(((answer) >> 8) & 0xFFFFFFu))
 #define SECOND_LENGTH(answer) ((size_t)((answer) >> 32))
 
-/* Runs one script: format 0 compact, 1 expanded. */
+/* Runs one script: format 0 compact, 1 expanded, 2 whichever its first byte shows. */
 uint64_t second_run(uint8_t *table, size_t table_length,
                     uint8_t *files, size_t files_length,
                     uint8_t *journal, size_t journal_length,

@@ -1,6 +1,6 @@
 /* The test of the second program: the worked card, then the points of docs/DECISIONS.md, then
  * histories and random input. Every expected byte is written by hand from the paper's text. A case
- * whose name begins with a number is of the point with that number. */
+ * whose name begins with a number is of the point with that number, one with K1 of that request. */
 #include "test_kit.h"
 
 /* "S 00D60000020141: 039000, U 18; taken back, all as before." */
@@ -83,6 +83,7 @@ int main(void)
     test_worked_card();
     test_soundness();
     test_calls();
+    test_detect();
     test_compact();
     test_files();
     test_expanded();

@@ -13,7 +13,7 @@ static void arguments(void)
     static char name[64];
 
     worked_card(&w);
-    refused(&w, "number 2: format 2", SHARED, OPEN, 2, SELECT_DF, 2);
+    refused(&w, "number 2: format 3", SHARED, OPEN, 3, SELECT_DF, 2);
     refused(&w, "number 2: format 255", SHARED, OPEN, 255, SELECT_DF, 2);
     for (size_t i = 0; i < sizeof applications / sizeof applications[0]; i++) {
         snprintf(name, sizeof name, "13: application %zu", applications[i]);
@@ -38,7 +38,7 @@ static void script_of(struct bytes *script, size_t length)
     memset(script->at, 0, length);
 }
 
-/* A script of so many bytes, in both formats. */
+/* A script of so many bytes, in every format. */
 static void number_3(const char *name, size_t length)
 {
     static struct card_bytes w;
@@ -47,8 +47,8 @@ static void number_3(const char *name, size_t length)
     worked_card(&w);
     script_of(&script, length);
     start_case(name);
-    check_number("number", 3, run(&w, SHARED, OPEN, COMPACT, &script, FULL_RESPONSE).number);
-    check_number("number", 3, run(&w, SHARED, OPEN, EXPANDED, &script, FULL_RESPONSE).number);
+    for (uint8_t format = COMPACT; format <= DETECT; format++)
+        check_number("number", 3, run(&w, SHARED, OPEN, format, &script, FULL_RESPONSE).number);
 }
 
 /* Numbers 3 and 4. */
@@ -120,7 +120,7 @@ static void order(void)
 
     worked_card(&w);
     w.journal.at[3] = 1;
-    refused(&w, "1 before 2", 261, 0x01, 2, "", 1);
+    refused(&w, "1 before 2", 261, 0x01, 3, "", 1);
     worked_card(&w);
     refused(&w, "2 before 3", SHARED, 0x01, COMPACT, "", 2);
     fill_journal(&w, 16, 128);
@@ -134,7 +134,8 @@ static void order(void)
     refused(&w, "2 before 6", SHARED, 0x01, EXPANDED, "55", 2);
 }
 
-/* A script of this head and so many bytes 55: accepted, or number 6. */
+/* A script of this head and so many bytes 55: accepted, or number 6; where its first byte shows an
+ * expanded one, with format 2 too (K1). */
 static void one_template(const char *name, const char *head, size_t more, bool accepted)
 {
     static struct card_bytes w;
@@ -145,8 +146,9 @@ static void one_template(const char *name, const char *head, size_t more, bool a
     for (size_t i = 0; i < more; i++)
         add_byte(&script, 0x55);
     start_case(name);
-    check_number("number", accepted ? 0 : 6,
-                 run(&w, SHARED, OPEN, EXPANDED, &script, FULL_RESPONSE).number);
+    for (uint8_t format = EXPANDED; format <= DETECT && is_expanded(format, &script); format++)
+        check_number("number", accepted ? 0 : 6,
+                     run(&w, SHARED, OPEN, format, &script, FULL_RESPONSE).number);
 }
 
 /* Point 14. The values hold 55, another tag; that is a Bad format TLV and no refusal. */

@@ -123,6 +123,13 @@ void fill_journal(struct card_bytes *c, unsigned marks, size_t used)
     }
 }
 
+bool is_expanded(uint8_t format, const struct bytes *script)
+{
+    if (format != DETECT)
+        return format == EXPANDED;
+    return script->length > 0 && (script->at[0] == 0xAA || script->at[0] == 0xAE);
+}
+
 unsigned used_of(const struct card_bytes *c) { return c->journal.at[0] * 256u + c->journal.at[1]; }
 unsigned scripts_of(const struct card_bytes *c) { return c->journal.at[2]; }
 

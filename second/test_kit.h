@@ -9,7 +9,7 @@
 
 #include "second.h"
 
-enum { COMPACT = 0, EXPANDED = 1 };
+enum { COMPACT = 0, EXPANDED = 1, DETECT = 2 };
 enum { SHARED = 0, OPEN = 0x00, CLOSED = 0xFF };
 enum { FULL_RESPONSE = 1024 };
 
@@ -119,6 +119,9 @@ void soundness(struct card_bytes *c, const char *name, bool is_sound);
 void unsound(struct card_bytes *c, const char *name);
 void sound(struct card_bytes *c, const char *name);
 
+/* Whether a run's script is expanded, by its format or with format 2 by its first byte. */
+bool is_expanded(uint8_t format, const struct bytes *script);
+
 /* U and the scripts on trial. */
 unsigned used_of(const struct card_bytes *c);
 unsigned scripts_of(const struct card_bytes *c);
@@ -132,6 +135,7 @@ void wrap_ae(struct bytes *value);
 /* ---- The parts of the test, each in the file of its name ---- */
 void test_soundness(void);
 void test_calls(void);
+void test_detect(void);
 void test_compact(void);
 void test_files(void);
 void test_expanded(void);

@@ -125,11 +125,31 @@ static void confirmed_between(void)
     check_card("not all as after the confirmation", &confirmed, &c);
 }
 
+/* K1: every script of the history gives with format 2 what it gives with its own number, and leaves
+ * the same card. */
+static void detected_alike(void)
+{
+    static struct card_bytes own, c;
+
+    start_case("K1: the history with format 2");
+    worked_card(&own);
+    c = own;
+    for (unsigned i = 0; i < STEPS; i++) {
+        struct step step = history[i];
+        const struct reply expected = take_step(&own, &step);
+        step.format = DETECT;
+        const struct reply reply = take_step(&c, &step);
+        check(same_answer(&expected, &reply), "another answer");
+        check_card("another card", &own, &c);
+    }
+}
+
 void test_histories(void)
 {
     script_between();
     back_to_the_start();
     confirmed_between();
+    detected_alike();
 }
 
 /* ---- Random input ---- */
@@ -278,7 +298,7 @@ static void check_form(const struct reply *reply, uint8_t format, const struct b
 
     if (reply->number != 0)
         return;
-    if (format == COMPACT) {
+    if (!is_expanded(format, script)) {
         check(reply->count >= 1 && reply->count <= 205 && r[0] == reply->count &&
               reply->length >= 3 && reply->length <= 3 + 256, "form of a compact answer");
     } else if (script->at[0] == 0xAE) {
@@ -293,22 +313,32 @@ static void check_form(const struct reply *reply, uint8_t format, const struct b
     }
 }
 
-/* A run with mostly right arguments. */
+/* A run with mostly right arguments; one of format 2 also with the number of the form found (K1). */
 static void random_run(struct card_bytes *c)
 {
     static struct bytes script;
+    static struct card_bytes own;
     static const size_t applications[20] = {[15] = 5, [16] = 5, [17] = 1, [18] = 6, [19] = 261};
-    const uint8_t format = (uint8_t)(below(20) == 0 ? 2 : below(2));
+    const uint8_t made = below(2) ? EXPANDED : COMPACT;
+    const uint8_t format = below(20) == 0 ? 3 : below(3) == 0 ? DETECT : made;
     const uint8_t domain = below(12) > 0 ? OPEN : below(2) ? CLOSED : some_byte();
     const size_t response_length = below(20) > 0 ? 1024 + below(3) : below(1025);
+    const size_t application = applications[below(20)];
 
-    if (format == EXPANDED)
+    if (made == EXPANDED)
         random_expanded(&script);
     else
         random_compact(&script);
-    const struct reply reply = run(c, applications[below(20)], domain, format, &script,
-                                   response_length);
+    own = *c;
+    const struct reply reply = run(c, application, domain, format, &script, response_length);
     check_form(&reply, format, &script);
+    if (format == DETECT) {
+        const uint8_t found = is_expanded(format, &script) ? EXPANDED : COMPACT;
+        const struct reply expected = run(&own, application, domain, found, &script,
+                                          response_length);
+        check(same_answer(&expected, &reply), "K1: another answer");
+        check_card("K1: another card", &own, c);
+    }
 }
 
 /* Changes bytes at so many places. */
@@ -392,7 +422,7 @@ static void random_noise(unsigned rounds)
             script.length -= 4;
             wrap_ae(&script);
         }
-        const uint8_t format = (uint8_t)below(2);
+        const uint8_t format = (uint8_t)below(3);
         const struct reply reply = run(&c, 5 * below(2), OPEN, format, &script, FULL_RESPONSE);
         check_form(&reply, format, &script);
         c.table.length = 16 * below(65);
