@@ -97,14 +97,12 @@ static bool note_r_apdus(enum style style, struct reader script, struct reader a
     return answer.left == 0;
 }
 
-/* Notes the count and all words of an expanded answer. */
-static bool note_expanded(const struct script *script, const uint8_t *response, size_t length,
-                          uint32_t count)
+/* Notes all words of an expanded answer. */
+static bool note_expanded(enum style style, const struct script *script, const uint8_t *response,
+                          size_t length, uint32_t count)
 {
-    const enum style style = script->at[0] == 0xAA ? AA : AE;
     struct reader commands = {script->at, script->length, true}, answer = {response, length, true};
 
-    note_count(style, count);
     take(&commands, 1);
     take(&answer, 1);
     if (style == AA) {
@@ -131,14 +129,18 @@ bool note_answer(const struct call *call, const struct answer *answer)
 
     if (call->kind == RUN)
         note_application(call->application);
-    if (!note_number(call->kind, number))
+    if (!note_number(call, number))
         return false;
-    if (call->kind != RUN || number != 0)
+    if (call->kind == RUN && call->format == RFM_DETECT &&
+        (number == RFM_DONE || number == RFM_NO_TEMPLATE))
+        note_first_byte(call->script.at[0]);
+    if (call->kind != RUN || number != RFM_DONE)
         return length == 0 && count == 0;
     if (length > call->response_length)
         return false;
-    if (call->format == 1)
-        return note_expanded(&call->script, answer->response, length, count);
-    note_count(COMPACT, count);
-    return note_compact(&call->script, answer->response, count);
+    const enum style style = style_found(call);
+    note_count(style, count);
+    if (style == COMPACT)
+        return note_compact(&call->script, answer->response, count);
+    return note_expanded(style, &call->script, answer->response, length, count);
 }

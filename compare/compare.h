@@ -173,19 +173,25 @@ void damage(struct card *card);
 /* ---- scripts.c, writing.c ---- */
 enum style { COMPACT, AA, AE, STYLES };
 
-void make_script(struct call *call, const struct card *card);
+void make_script(struct call *call, enum style style, const struct card *card);
+uint8_t own_format(enum style style);
+enum style style_found(const struct call *call);
 enum style unwrap(const struct call *call, struct script *value);
 void wrap(struct script *script, enum style style, const struct script *value);
 
 /* ---- coverage.c, answers.c ---- */
+enum { FIRST_BYTES = 8 };
+
 extern const char *const styles[STYLES];
+extern const uint8_t first_bytes[FIRST_BYTES];
 
 bool note_word(enum style style, uint8_t ins, unsigned word);
 bool note_bad_format(enum style style, unsigned code);
 void note_count(enum style style, uint32_t count);
 void note_struck(bool taken_back);
 void note_application(size_t application);
-bool note_number(enum call_kind kind, unsigned number);
+bool note_number(const struct call *call, unsigned number);
+void note_first_byte(uint8_t first);
 bool note_answer(const struct call *call, const struct answer *answer);
 void print_reached(unsigned long times);
 bool print_coverage(void);

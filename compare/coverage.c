@@ -1,6 +1,6 @@
 /* What a run of the comparison must reach: every pair of instruction and status word that the
- * paper allows, in compact and in both templates of expanded, every call number, and the rest
- * named below. A pair that the paper does not allow is a failure too. */
+ * paper allows, in compact and in both templates of expanded, every call number, in every format,
+ * and the rest named below. A pair or a number that the paper does not allow is a failure too. */
 #include "lend.h"
 
 #include <stdio.h>
@@ -42,13 +42,29 @@ static bool allowed(enum style style, size_t row, size_t column)
     return cell == 'b' || cell == (style == COMPACT ? 'c' : 'e');
 }
 
-/* The numbers of a run, a take-back and a confirmation, up to the 7. */
+/* The numbers of each call, up to the 7: of runs by format, and of those with format 2 by what was
+ * found, in the order of the styles. */
 enum { NUMBERS = 8 };
+enum call_row {
+    FORMAT_0, FORMAT_1, FOUND_COMPACT, FOUND_AA, FOUND_AE, NO_BYTE, FORMAT_3, FORMAT_255,
+    OTHER_FORMAT, TAKEN_BACK, CONFIRMED, CALL_ROWS
+};
 static const struct {
     const char *name, *allowed;
-} calls[CALL_KINDS] = {[RUN] = {"run", "yyyyyyy."},
-                       [TAKE_BACK] = {"take-back", "yy.....y"},
-                       [CONFIRM] = {"confirmation", "yy......"}};
+} calls[CALL_ROWS] = {[FORMAT_0] = {"format 0", "yyyyyy.."},
+                      [FORMAT_1] = {"format 1", "yyyyyyy."},
+                      [FOUND_COMPACT] = {"2: compact", "yyyyyy.."},
+                      [FOUND_AA] = {"2: AA", "yyyyyyy."},
+                      [FOUND_AE] = {"2: AE", "yyyyyyy."},
+                      [NO_BYTE] = {"2: no byte", ".yyy...."},
+                      [FORMAT_3] = {"format 3", ".yy....."},
+                      [FORMAT_255] = {"format 255", ".yy....."},
+                      [OTHER_FORMAT] = {"format other", ".yy....."},
+                      [TAKEN_BACK] = {"take-back", "yy.....y"},
+                      [CONFIRMED] = {"confirmation", "yy......"}};
+
+/* First bytes that must be reached with format 2. */
+const uint8_t first_bytes[FIRST_BYTES] = {0x00, 0x80, 0xAA, 0xAE, 0x01, 0x22, 0xAB, 0xFF};
 
 enum { CODES = 3, COUNTS = 4, APPLICATIONS = 5 };
 
@@ -67,7 +83,8 @@ static const struct {
 
 /* How often each was reached. */
 static struct {
-    unsigned long pairs[STYLES][ROWS][WORDS], numbers[CALL_KINDS][NUMBERS];
+    unsigned long pairs[STYLES][ROWS][WORDS], numbers[CALL_ROWS][NUMBERS];
+    unsigned long first_bytes[FIRST_BYTES];
     unsigned long codes[STYLES][CODES], counts[STYLES][COUNTS], applications[APPLICATIONS];
     unsigned long taken_back, number_5;
 } reached;
@@ -124,13 +141,44 @@ void note_application(size_t application)
     reached.applications[i]++;
 }
 
-/* Notes a call's number; false if the call does not give it. */
-bool note_number(enum call_kind kind, unsigned number)
+/* The row of a call. */
+static enum call_row row_of(const struct call *call)
 {
-    if (number >= NUMBERS || calls[kind].allowed[number] != 'y')
+    if (call->kind != RUN)
+        return call->kind == TAKE_BACK ? TAKEN_BACK : CONFIRMED;
+    switch (call->format) {
+    case RFM_COMPACT:
+        return FORMAT_0;
+    case RFM_EXPANDED:
+        return FORMAT_1;
+    case RFM_DETECT:
+        return call->script.length == 0 ? NO_BYTE : FOUND_COMPACT + style_found(call);
+    case 3:
+        return FORMAT_3;
+    case 255:
+        return FORMAT_255;
+    default:
+        return OTHER_FORMAT;
+    }
+}
+
+/* Notes a call's number; false if the call does not give it. */
+bool note_number(const struct call *call, unsigned number)
+{
+    const enum call_row row = row_of(call);
+
+    if (number >= NUMBERS || calls[row].allowed[number] != 'y')
         return false;
-    reached.numbers[kind][number]++;
+    reached.numbers[row][number]++;
     return true;
+}
+
+/* Notes the first byte of a script whose style was found by it, if it is one that must be
+ * reached. */
+void note_first_byte(uint8_t first)
+{
+    for (size_t i = 0; i < FIRST_BYTES; i++)
+        reached.first_bytes[i] += first == first_bytes[i];
 }
 
 static size_t missing;
@@ -174,15 +222,27 @@ static void print_numbers(void)
     printf("\n%-12s", "number");
     for (unsigned number = 0; number < NUMBERS; number++)
         printf(" %6u", number);
-    for (enum call_kind kind = RUN; kind < CALL_KINDS; kind++) {
-        printf("\n%-12s", calls[kind].name);
+    for (enum call_row row = FORMAT_0; row < CALL_ROWS; row++) {
+        printf("\n%-12s", calls[row].name);
         for (unsigned number = 0; number < NUMBERS; number++) {
-            if (calls[kind].allowed[number] == 'y')
-                print_reached(reached.numbers[kind][number]);
+            if (calls[row].allowed[number] == 'y')
+                print_reached(reached.numbers[row][number]);
             else
                 printf(" %6s", "-");
         }
     }
+    printf("\n");
+}
+
+/* Prints how often a script of format 2 was read by each first byte. */
+static void print_first_bytes(void)
+{
+    printf("\n%-12s", "first byte");
+    for (size_t i = 0; i < FIRST_BYTES; i++)
+        printf("     %02X", first_bytes[i]);
+    printf("\n%-12s", "format 2");
+    for (size_t i = 0; i < FIRST_BYTES; i++)
+        print_reached(reached.first_bytes[i]);
     printf("\n");
 }
 
@@ -192,6 +252,7 @@ bool print_coverage(void)
     for (enum style style = COMPACT; style < STYLES; style++)
         print_pairs(style);
     print_numbers();
+    print_first_bytes();
     print_lent();
     print_sweep();
     for (enum style style = COMPACT; style < STYLES; style++) {

@@ -28,19 +28,28 @@ static void misfit(struct script *script)
     script->length = length;
 }
 
+/* A format for a script in this style: its own or 2, or any other number. */
+static uint8_t some_format(enum style style, bool wrong)
+{
+    if (wrong)
+        return one_in(2) ? telling_byte() : one_in(2) ? 3 : 255;
+    return one_in(3) ? RFM_DETECT : own_format(style);
+}
+
 /* Makes a run. Wrong arguments are rare, but often do not come alone. */
 static void make_run(struct call *call, const struct card *now)
 {
     const uint32_t wrong = one_in(20) ? 3 : 200;
+    const enum style style = below(5) < 2 ? COMPACT : one_in(2) ? AA : AE;
 
     call->application = some_application(now, one_in(wrong));
     call->domain = one_in(24) ? 0xFF : 0x00;
     if (one_in(wrong))
         call->domain = telling_byte();
-    call->format = below(5) < 3;
-    make_script(call, now);
-    if (one_in(wrong))
-        call->format = telling_byte();
+    call->format = some_format(style, one_in(wrong));
+    make_script(call, style, now);
+    if (call->format == RFM_DETECT && call->script.length > 0 && one_in(8))
+        call->script.at[0] = first_bytes[below(FIRST_BYTES)];
     if (one_in(wrong))
         misfit(&call->script);
     call->response_length = LEAST_RESPONSE + (one_in(3) ? below(SPARE + 1) : 0);

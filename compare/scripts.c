@@ -1,4 +1,4 @@
-/* Scripts for a card, mostly right, in both formats. */
+/* Scripts for a card, mostly right, in every style. */
 #include "scripts.h"
 
 #include <string.h>
@@ -254,11 +254,10 @@ static void noise(struct maker *maker)
     }
 }
 
-/* Makes the script of a run whose application, domain and format are set. */
-void make_script(struct call *call, const struct card *card)
+/* Makes the script of a run whose application and domain are set. */
+void make_script(struct call *call, enum style style, const struct card *card)
 {
     const size_t root = call->application < entries_of(card) ? call->application : 0;
-    const enum style style = call->format == 0 ? COMPACT : one_in(2) ? AA : AE;
     struct maker maker = {.card = card, .root = root, .directory = root, .style = style,
                           .closed = call->domain == 0xFF,
                           .most = style == COMPACT ? MOST_SCRIPT : MOST_SCRIPT - 4};

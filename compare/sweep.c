@@ -107,7 +107,7 @@ static void make_runs(struct history *history, uint8_t ins, enum style style,
         call->kind = RUN;
         call->application = 0;
         call->domain = 0x00;
-        call->format = style != COMPACT;
+        call->format = own_format(style);
         call->response_length = LEAST_RESPONSE;
         wrap(&call->script, style, &maker.value);
     }

@@ -115,6 +115,20 @@ void wrap(struct script *script, enum style style, const struct script *value)
     script->length = (size_t)(at - script->at);
 }
 
+/* The number of a style's own format. */
+uint8_t own_format(enum style style) { return style == COMPACT ? RFM_COMPACT : RFM_EXPANDED; }
+
+/* The style in which a run reads its script: compact with format 0, else what the first byte shows.
+ * With format 1 a script that shows neither template is refused. */
+enum style style_found(const struct call *call)
+{
+    const struct script *script = &call->script;
+
+    if (call->format == RFM_COMPACT || script->length == 0)
+        return COMPACT;
+    return script->at[0] == 0xAA ? AA : script->at[0] == 0xAE ? AE : COMPACT;
+}
+
 /* Takes the value of a run's script out of its template; what is none is taken as compact. */
 enum style unwrap(const struct call *call, struct script *value)
 {
@@ -123,9 +137,10 @@ enum style unwrap(const struct call *call, struct script *value)
         size_t head, tail;
     } forms[] = {{AE, 2, 2}, {AA, 2, 0}, {AA, 3, 0}, {AA, 4, 0}};
     const struct script *script = &call->script;
+    const bool wrapped = style_found(call) != COMPACT;
     struct script again;
 
-    for (size_t i = 0; i < sizeof forms / sizeof forms[0] && call->format == 1; i++) {
+    for (size_t i = 0; i < sizeof forms / sizeof forms[0] && wrapped; i++) {
         if (script->length < forms[i].head + forms[i].tail)
             continue;
         value->length = script->length - forms[i].head - forms[i].tail;
