@@ -145,12 +145,16 @@ struct history {
     struct call calls[MOST_CALLS];
 };
 
+/* What the library is compared with: the second program, or the library itself, with the struck-out
+ * calls left out or with the format found in the place of format 2. */
+enum against { SECOND, WITHOUT_STRUCK, FORMAT_FOUND };
+
 /* What the library did and what was expected of it, where the two first differ. */
 struct difference {
     const char *what;
-    size_t call;   /* its place in the history */
-    bool replayed; /* with the struck-out calls left out */
-    size_t place;  /* of the first differing byte; NO_PLACE for a number */
+    size_t call; /* its place in the history */
+    enum against against;
+    size_t place; /* of the first differing byte; NO_PLACE for a number */
     unsigned long library, expected;
 };
 

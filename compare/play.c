@@ -1,5 +1,5 @@
-/* Plays a history on the library and on the second program, call by call, and once more on the
- * library with the struck-out calls left out. */
+/* Plays a history on the library and on the second program, call by call; on the library once more
+ * each run of format 2 with the format found, and all with the struck-out calls left out. */
 #include "lend.h"
 
 #include <string.h>
@@ -104,6 +104,25 @@ static bool same_card(const struct card *a, const struct card *b, struct differe
            same_memory("journal", &a->journal, &b->journal, difference);
 }
 
+/* ---- Request K1 ---- */
+
+/* Makes a run of format 2 on the library with the format found, on the card as it was before: the
+ * same answer and the same card after it. */
+static bool same_as_found(const struct call *call, struct card *before, const struct answer *answer,
+                          const struct card *after, struct difference *difference)
+{
+    static struct call found;
+    static struct answer expected;
+
+    found = *call;
+    found.format = own_format(style_found(call));
+    make_call(&library, before, &found, &expected);
+    if (same_answer(answer, &expected, difference) && same_card(after, before, difference))
+        return true;
+    difference->against = FORMAT_FOUND;
+    return false;
+}
+
 /* ---- Demand 3 ---- */
 
 /* Finds the calls to be struck out: each script that was taken back with its take-back, each run
@@ -152,26 +171,40 @@ static bool replay(const struct history *history, const struct card *end,
     return same_card(end, &card, difference);
 }
 
+/* ---- Playing ---- */
+
+/* The card of each program. */
+static struct card library_card, second_card;
+
+/* Makes the call at this place of a history on both cards; answers whether nothing differs. */
+static bool play_call(const struct call *call, size_t i, struct difference *difference)
+{
+    static struct card before;
+    const bool detected = call->kind == RUN && call->format == RFM_DETECT;
+
+    if (detected)
+        copy_card(&before, &library_card);
+    make_call(&library, &library_card, call, &library_answers[i]);
+    make_call(&second, &second_card, call, &second_answers[i]);
+    return same_answer(&library_answers[i], &second_answers[i], difference) &&
+           same_card(&library_card, &second_card, difference) &&
+           same_value("answer that the paper allows", note_answer(call, &library_answers[i]), true,
+                      difference) &&
+           (!detected ||
+            same_as_found(call, &before, &library_answers[i], &library_card, difference));
+}
+
 /* Plays a history, each call made as it comes if a maker is given; false at the first
  * difference, which ends the history. */
 bool play(struct history *history, call_maker *next, struct difference *difference)
 {
-    static struct card library_card, second_card;
-
     *difference = (struct difference){.what = NULL};
     copy_card(&library_card, &history->start);
     copy_card(&second_card, &history->start);
     for (size_t i = 0; i < history->count; i++) {
-        const struct call *call = &history->calls[i];
         if (next != NULL)
             next(&history->calls[i], &second_card);
-        make_call(&library, &library_card, call, &library_answers[i]);
-        make_call(&second, &second_card, call, &second_answers[i]);
-        const bool same = same_answer(&library_answers[i], &second_answers[i], difference) &&
-                          same_card(&library_card, &second_card, difference) &&
-                          same_value("answer that the paper allows",
-                                     note_answer(call, &library_answers[i]), true, difference);
-        if (!same) {
+        if (!play_call(&history->calls[i], i, difference)) {
             difference->call = i;
             history->count = i + 1;
             return false;
@@ -179,6 +212,6 @@ bool play(struct history *history, call_maker *next, struct difference *differen
     }
     if (replay(history, &library_card, difference))
         return true;
-    difference->replayed = true;
+    difference->against = WITHOUT_STRUCK;
     return false;
 }

@@ -57,13 +57,18 @@ static void print_call(const struct history *history, size_t i)
 /* Prints where the two first differ. */
 static void print_difference(const struct difference *difference)
 {
-    printf("difference%s in call %zu: %s",
-           difference->replayed ? " without the struck-out calls" : "", difference->call + 1,
-           difference->what);
+    static const struct {
+        const char *heading, *expected;
+    } texts[] = {[SECOND] = {"", "expected"},
+                 [WITHOUT_STRUCK] = {" without the struck-out calls", "without them"},
+                 [FORMAT_FOUND] = {" with the format found", "with it"}};
+
+    printf("difference%s in call %zu: %s", texts[difference->against].heading,
+           difference->call + 1, difference->what);
     if (difference->place != NO_PLACE)
         printf(", byte %zu", difference->place);
-    printf(": library %lX, %s %lX\n", difference->library,
-           difference->replayed ? "without them" : "expected", difference->expected);
+    printf(": library %lX, %s %lX\n", difference->library, texts[difference->against].expected,
+           difference->expected);
 }
 
 /* Prints the card, the calls and the first difference. */
