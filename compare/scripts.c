@@ -144,6 +144,16 @@ static void go_to(struct maker *maker, size_t entry, uint8_t p2)
     maker->deactivated = target[AT_STATE] == DEACTIVATED;
 }
 
+/* Selects the parent of the directory by its identifier, where the directory is not the root. */
+static void go_up(struct maker *maker)
+{
+    if (maker->directory == maker->root)
+        return;
+    maker->directory = entry_of(maker->card, maker->directory)[AT_PARENT];
+    maker->file = 0;
+    add_select(maker, BY_IDENTIFIER, entry_of(maker->card, maker->directory), 2, NO_DATA);
+}
+
 /* An entry below the root, a file if one is found soon. */
 static size_t some_target(const struct maker *maker)
 {
@@ -170,6 +180,8 @@ static void short_script(struct maker *maker)
     for (uint32_t files = none ? 0 : 1 + below(2); files > 0; files--) {
         const uint32_t any = below((uint32_t)entries_of(maker->card));
         const size_t target = one_in(16) ? any : some_target(maker);
+        if (one_in(3))
+            go_up(maker);
         go_to(maker, target, one_in(3) ? WITH_FCP : NO_DATA);
         for (uint32_t commands = below(4); commands > 0; commands--)
             add_fitting(maker, some_flaw(30));
