@@ -18,6 +18,13 @@ static size_t some_application(const struct card *card, bool wrong)
     return one_in(3) ? 0 : number;
 }
 
+/* Gives a script another first byte, if it has one: it shows another style, or no right template. */
+static void retag(struct script *script)
+{
+    if (script->length > 0)
+        script->at[0] = first_bytes[below(FIRST_BYTES)];
+}
+
 /* Makes a script empty or one byte too long. */
 static void misfit(struct script *script)
 {
@@ -48,8 +55,8 @@ static void make_run(struct call *call, const struct card *now)
         call->domain = telling_byte();
     call->format = some_format(style, one_in(wrong));
     make_script(call, style, now);
-    if (call->format == RFM_DETECT && call->script.length > 0 && one_in(8))
-        call->script.at[0] = first_bytes[below(FIRST_BYTES)];
+    if (call->format == RFM_DETECT && one_in((uint32_t)smaller(wrong, 8)))
+        retag(&call->script);
     if (one_in(wrong))
         misfit(&call->script);
     call->response_length = LEAST_RESPONSE + (one_in(3) ? below(SPARE + 1) : 0);
