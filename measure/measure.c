@@ -22,6 +22,7 @@ static const struct program sides[] = {{rfm_run, rfm_take_back, library_confirm}
 enum content { ZEROS, MIXED }; /* of file memory; mixed bytes are below 80 */
 enum { WORKED = 0 };           /* entries of the worked card, by name */
 enum place { LAST, MIDDLE };   /* of the odd byte among a command's data */
+enum number { OWN, DETECT };   /* the format number: the style's own, or that of detection */
 
 struct row {
     const char *group, *name;
@@ -36,6 +37,7 @@ struct row {
     size_t lc;
     uint8_t fill, odd;        /* its data: all bytes but one, and that one */
     enum place place;
+    enum number number;
 };
 
 #define CALL "call"
@@ -44,53 +46,57 @@ struct row {
 
 static const struct row rows[] = {
     {CALL, "run, refused with 2, journal empty",
-     RUN, 64, MIXED, 0, 0, 1, 0x01, COMPACT, 1024, UPDATE_BINARY, 1, 0x5A, 0x5A, LAST},
+     RUN, 64, MIXED, 0, 0, 1, 0x01, COMPACT, 1024, UPDATE_BINARY, 1, 0x5A, 0x5A, LAST, OWN},
     {CALL, "run, refused with 5, journal full",
-     RUN, 64, MIXED, 2044, 15, 1, 0, COMPACT, 1024, UPDATE_BINARY, 1, 0x5A, 0x5A, LAST},
+     RUN, 64, MIXED, 2044, 15, 1, 0, COMPACT, 1024, UPDATE_BINARY, 1, 0x5A, 0x5A, LAST, OWN},
     {CALL, "one command on the worked card, compact",
-     RUN, WORKED, ZEROS, 0, 0, 0, 0, COMPACT, 7, SELECT, 2, 0, 0, LAST},
+     RUN, WORKED, ZEROS, 0, 0, 0, 0, COMPACT, 7, SELECT, 2, 0, 0, LAST, OWN},
     {CALL, "one command on the worked card, expanded",
-     RUN, WORKED, ZEROS, 0, 0, 0, 0, AA, 11, SELECT, 2, 0, 0, LAST},
+     RUN, WORKED, ZEROS, 0, 0, 0, 0, AA, 11, SELECT, 2, 0, 0, LAST, OWN},
+    {CALL, "one command on the worked card, compact, detected",
+     RUN, WORKED, ZEROS, 0, 0, 0, 0, COMPACT, 7, SELECT, 2, 0, 0, LAST, DETECT},
+    {CALL, "one command on the worked card, expanded, detected",
+     RUN, WORKED, ZEROS, 0, 0, 0, 0, AA, 11, SELECT, 2, 0, 0, LAST, DETECT},
     {CALL, "UPDATE of 1 byte",
-     RUN, 64, MIXED, 523, 15, 1, 0, COMPACT, 1024, UPDATE_BINARY, 1, 0x5A, 0x5A, LAST},
+     RUN, 64, MIXED, 523, 15, 1, 0, COMPACT, 1024, UPDATE_BINARY, 1, 0x5A, 0x5A, LAST, OWN},
     {CALL, "UPDATE of 1 byte, expanded (AE)",
-     RUN, 64, MIXED, 908, 15, 1, 0, AE, 1024, UPDATE_BINARY, 1, 0x5A, 0x5A, LAST},
+     RUN, 64, MIXED, 908, 15, 1, 0, AE, 1024, UPDATE_BINARY, 1, 0x5A, 0x5A, LAST, OWN},
     {CALL, "UPDATE of 1 byte until 6581",
-     RUN, 64, MIXED, 1500, 15, 1, 0, COMPACT, 1024, UPDATE_BINARY, 1, 0x5A, 0x5A, LAST},
+     RUN, 64, MIXED, 1500, 15, 1, 0, COMPACT, 1024, UPDATE_BINARY, 1, 0x5A, 0x5A, LAST, OWN},
     {CALL, "UPDATE of 247 bytes",
-     RUN, 64, MIXED, 1015, 15, 1, 0, COMPACT, 1024, UPDATE_BINARY, 247, 0x5A, 0x5A, LAST},
+     RUN, 64, MIXED, 1015, 15, 1, 0, COMPACT, 1024, UPDATE_BINARY, 247, 0x5A, 0x5A, LAST, OWN},
     {CALL, "SEARCH for 58 bytes, not found",
-     RUN, 64, MIXED, 2036, 15, 1, 0, COMPACT, 1024, SEARCH, 58, 0x25, 0x80, LAST},
+     RUN, 64, MIXED, 2036, 15, 1, 0, COMPACT, 1024, SEARCH, 58, 0x25, 0x80, LAST, OWN},
     {CALL, "SEARCH for 121 bytes, each place but for the last byte",
-     RUN, 64, ZEROS, 2036, 15, 1, 0, COMPACT, 1024, SEARCH, 121, 0x00, 0x01, LAST},
+     RUN, 64, ZEROS, 2036, 15, 1, 0, COMPACT, 1024, SEARCH, 121, 0x00, 0x01, LAST, OWN},
     {CALL, "SEARCH for 121 bytes, each place but for a byte in the middle",
-     RUN, 64, ZEROS, 2036, 15, 1, 0, COMPACT, 1024, SEARCH, 121, 0x00, 0x01, MIDDLE},
+     RUN, 64, ZEROS, 2036, 15, 1, 0, COMPACT, 1024, SEARCH, 121, 0x00, 0x01, MIDDLE, OWN},
     {CALL, "SEARCH for 1 byte, found first in each record",
-     RUN, 64, ZEROS, 2036, 15, 1, 0, COMPACT, 1024, SEARCH, 1, 0x00, 0x00, LAST},
+     RUN, 64, ZEROS, 2036, 15, 1, 0, COMPACT, 1024, SEARCH, 1, 0x00, 0x00, LAST, OWN},
     {CALL, "INCREASE by 121 bytes",
-     RUN, 64, MIXED, 884, 15, 1, 0, COMPACT, 1024, INCREASE, 121, 0x01, 0x01, LAST},
+     RUN, 64, MIXED, 884, 15, 1, 0, COMPACT, 1024, INCREASE, 121, 0x01, 0x01, LAST, OWN},
     {CALL, "take-back of entries of 1 byte, journal full",
-     TAKE_BACK, 64, MIXED, 2044, 1, 1, 0, COMPACT, 0, 0, 0, 0, 0, LAST},
+     TAKE_BACK, 64, MIXED, 2044, 1, 1, 0, COMPACT, 0, 0, 0, 0, 0, LAST, OWN},
     {CALL, "take-back of entries of 246 bytes, journal full",
-     TAKE_BACK, 64, MIXED, 2044, 1, 246, 0, COMPACT, 0, 0, 0, 0, 0, LAST},
+     TAKE_BACK, 64, MIXED, 2044, 1, 246, 0, COMPACT, 0, 0, 0, 0, 0, LAST, OWN},
     {CALL, "confirmation, journal full",
-     CONFIRM, 64, MIXED, 2044, 16, 1, 0, COMPACT, 0, 0, 0, 0, 0, LAST},
+     CONFIRM, 64, MIXED, 2044, 16, 1, 0, COMPACT, 0, 0, 0, 0, 0, LAST, OWN},
     {ENTRIES, "1",
-     RUN, 1, MIXED, 0, 0, 0, 0, COMPACT, 7, SELECT, 2, 0, 0, LAST},
+     RUN, 1, MIXED, 0, 0, 0, 0, COMPACT, 7, SELECT, 2, 0, 0, LAST, OWN},
     {ENTRIES, "8",
-     RUN, 8, MIXED, 0, 0, 0, 0, COMPACT, 7, SELECT, 2, 0, 0, LAST},
+     RUN, 8, MIXED, 0, 0, 0, 0, COMPACT, 7, SELECT, 2, 0, 0, LAST, OWN},
     {ENTRIES, "16",
-     RUN, 16, MIXED, 0, 0, 0, 0, COMPACT, 7, SELECT, 2, 0, 0, LAST},
+     RUN, 16, MIXED, 0, 0, 0, 0, COMPACT, 7, SELECT, 2, 0, 0, LAST, OWN},
     {ENTRIES, "32",
-     RUN, 32, MIXED, 0, 0, 0, 0, COMPACT, 7, SELECT, 2, 0, 0, LAST},
+     RUN, 32, MIXED, 0, 0, 0, 0, COMPACT, 7, SELECT, 2, 0, 0, LAST, OWN},
     {ENTRIES, "64",
-     RUN, 64, MIXED, 0, 0, 0, 0, COMPACT, 7, SELECT, 2, 0, 0, LAST},
+     RUN, 64, MIXED, 0, 0, 0, 0, COMPACT, 7, SELECT, 2, 0, 0, LAST, OWN},
     {LENGTH, "64",
-     RUN, WORKED, ZEROS, 0, 0, 0, 0, COMPACT, 64, UPDATE_BINARY, 1, 0x5A, 0x5A, LAST},
+     RUN, WORKED, ZEROS, 0, 0, 0, 0, COMPACT, 64, UPDATE_BINARY, 1, 0x5A, 0x5A, LAST, OWN},
     {LENGTH, "256",
-     RUN, WORKED, ZEROS, 0, 0, 0, 0, COMPACT, 256, UPDATE_BINARY, 1, 0x5A, 0x5A, LAST},
+     RUN, WORKED, ZEROS, 0, 0, 0, 0, COMPACT, 256, UPDATE_BINARY, 1, 0x5A, 0x5A, LAST, OWN},
     {LENGTH, "1024",
-     RUN, WORKED, ZEROS, 0, 0, 0, 0, COMPACT, 1024, UPDATE_BINARY, 1, 0x5A, 0x5A, LAST},
+     RUN, WORKED, ZEROS, 0, 0, 0, 0, COMPACT, 1024, UPDATE_BINARY, 1, 0x5A, 0x5A, LAST, OWN},
 };
 
 enum { ROWS = sizeof rows / sizeof rows[0], SIDES = sizeof sides / sizeof sides[0] };
@@ -313,6 +319,8 @@ static void lend(const struct row *row, struct lent *lent)
     lent->call.response_length = LEAST_RESPONSE;
     if (row->kind == RUN)
         make_row_script(&lent->call, row);
+    if (row->number == DETECT)
+        lent->call.format = RFM_DETECT;
 }
 
 /* Makes the call by one of the two programs. */
