@@ -185,7 +185,8 @@ struct rfm_script {
 };
 
 /* The form of a script and of its answer, RFM_COMPACT or RFM_EXPANDED: the one that is
- * named, or by RFM_DETECT the one that is found. */
+ * named, or by RFM_DETECT the one that is found. The answer's first byte does not tell:
+ * AB may be a compact one's count. */
 RFM_MUST_USE static inline enum rfm_format rfm_form(const struct rfm_script *script)
 {
     if (script->format != RFM_DETECT)

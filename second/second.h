@@ -1,4 +1,5 @@
-/* The second program: the paper's three calls, written from the paper alone.
+/* The second program: the paper's three calls, written from the paper and the
+ * requests alone.
  *
  * Each call answers   number + 2^8 * count + 2^32 * length.
  * number is the paper's call number (0: accepted), count the commands counted,

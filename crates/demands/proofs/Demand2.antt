@@ -1,5 +1,5 @@
--- Demand 2: detection, the commands of a script, the fresh start, errors, the marked cases, and the places of a cyclic file's records. Assumes
--- nothing.
+-- Demand 2: detection, the commands of a script, the fresh start, errors, the marked cases, and the places of a cyclic file's records.
+-- Assumes nothing.
 use Prim.Native.Nat.{ℕ, _<_}
 use mathlib.Core.Path.{refl}
 use Rattle.card.specs.Records.{cyclicPlace, recordPlace, recordOffset}

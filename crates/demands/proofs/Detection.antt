@@ -15,15 +15,15 @@ use Rattle.demands.specs.Called.{running, resultOf}
 use Rattle.demands.specs.Demand2.{formatNumber, asFound}
 
 -- the arguments with another format number
-abbrev numbered : ℕ → Arguments → Arguments
-numbered n a = record { application = a .application; domain = a .domain; format = n; script = a .script; response = a .response }
+abbrev withFormat : ℕ → Arguments → Arguments
+withFormat n a = record { application = a .application; domain = a .domain; format = n; script = a .script; response = a .response }
 
 -- two known numbers that make the same format make the same run
-as-numbered : (f : Format) (n : ℕ) (a : Arguments) (c : Card) → formatKnown (a .format) ≡ true → formatOf (a .format) (a .script) ≡ f → formatKnown n ≡ true → formatOf n (a .script) ≡ f
-    → run a c ≡ run (numbered n a) c
+same-run : (f : Format) (n : ℕ) (a : Arguments) (c : Card) → formatKnown (a .format) ≡ true → formatOf (a .format) (a .script) ≡ f → formatKnown n ≡ true → formatOf n (a .script) ≡ f
+    → run a c ≡ run (withFormat n a) c
 unfolding run runRefusals argumentsFit runScript
-as-numbered Compact n a c k e l g = rw (k, e, l, g)
-as-numbered Expanded n a c k e l g = rw (k, e, l, g)
+same-run Compact n a c k e l g = rw (k, e, l, g)
+same-run Expanded n a c k e l g = rw (k, e, l, g)
 
 -- the number of a format is known, and makes it that format
 own-known : (f : Format) → formatKnown (formatNumber f) ≡ true
@@ -45,4 +45,4 @@ pub detection : (a : Arguments) (c : Card) → a .format ≡ 2 → resultOf (run
 unfolding resultOf asFound
 detection a c e =
     let f = detected (a .script) in
-    as-numbered f (formatNumber f) a c (ap formatKnown e) (found-format (a .format) (a .script) e) (own-known f) (own-format f (a .script))
+    same-run f (formatNumber f) a c (ap formatKnown e) (found-format (a .format) (a .script) e) (own-known f) (own-format f (a .script))
