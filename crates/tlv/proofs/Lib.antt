@@ -1,3 +1,4 @@
 pub mod Fits
 pub mod Written
+pub mod Behind
 pub mod Determined

@@ -50,7 +50,7 @@ fn long_length(bytes: &[u8], at: usize, end: usize) -> Length
 }
 
 // Returns the length that stands at the place `at`, in bytes that end at `end`.
-pub(crate) fn length_at(bytes: &[u8], at: usize, end: usize) -> Length
+pub fn length_at(bytes: &[u8], at: usize, end: usize) -> Length
     requires { ⌜ (at ≤ end) × (end ≤ length (now bytes)) ⌝ }
     ensures { λ r. ⌜ (r ≡ spec.lengthAt (now (bytes .entry)) at end) × LengthFits at end r ⌝ }
 {
@@ -71,7 +71,7 @@ pub(crate) fn length_at(bytes: &[u8], at: usize, end: usize) -> Length
 }
 
 // Returns the code of the Bad format TLV for a length that was not found, and 0 for one that was.
-pub(crate) fn code_of(l: Length) -> usize
+pub fn code_of(l: Length) -> usize
     ensures { λ n. ⌜ n ≡ spec.codeOf l ⌝ }
 {
     match l {
