@@ -40,9 +40,6 @@ check-stops SumTooLong = refl
 check-stops JournalFull = refl
 check-stops AnswerTooLong = refl
 
-pub kept-goes : (word : ℕ) → CanBeKept word → goesOn word ≡ true
-kept-goes word = ⊎-elim (λ e. rw e) (λ e. rw e)
-
 -- the last of four tests holds
 last-holds : (a b c d : Bool) → d ≡ true → (a || (b || (c || d))) ≡ true
 last-holds true b c d h = refl

@@ -19,13 +19,13 @@ use Rattle.decide.specs.Decisions.{decided, planned}
 
 module _ (P : Plan → Type 0) (w : Situation) where
   -- a check fails, or none
-  pub of-planned : ((k : Check) → P (failed (w .session) k)) → (firstFailing w (order (w .command .instruction)) ≡ Passed → P (doneBy (w .command .instruction) w)) → P (planned w)
+  pub of-planned : ((k : Check) → firstFailing w (order (w .command .instruction)) ≡ Failed k → P (failed (w .session) k)) → (firstFailing w (order (w .command .instruction)) ≡ Passed → P (doneBy (w .command .instruction) w)) → P (planned w)
   unfolding planned
   of-planned failing does = go (firstFailing w (order (w .command .instruction))) refl
     where
       go : (k : Checked) → firstFailing w (order (w .command .instruction)) ≡ k → P (decided w k)
       go Passed h = unfold decided in does h
-      go (Failed k) h = unfold decided in failing k
+      go (Failed k) h = unfold decided in failing k h
 
   -- what an instruction does; of those that there are, the last is GET RESPONSE
   pub by-instruction : (i : ℕ)

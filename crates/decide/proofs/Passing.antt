@@ -3,9 +3,10 @@
 -- (`all-pass`); those of a file command that a plan rests on get names (`Passes`). A check is a choice by the instruction between
 -- tests of numbers: with the instruction known the choice is made, and the test gives the equation or the bound (`offset-read`,
 -- `length-record`, `named-there` and the others). Assumes nothing.
-use mathlib.Core.Path.{_≡_, refl, sym}
+use mathlib.Core.Path.{_≡_, refl, sym, subst}
 use mathlib.Core.Bool.{Bool, true, false, not, _&&_, _||_, false≢true}
 use mathlib.Core.List.{List, [], _∷_, _++_}
+use mathlib.Core.Logic.{_⊎_, inl, inr, ⊎-elim}
 use Prim.Native.Nat.{ℕ, _+_, _≤_, _<_}
 use native.Mathlib.Omega.{arith}
 use lib.Dec.{leb, eqb}
@@ -22,7 +23,7 @@ use Rattle.command.specs.Instructions.{carriesData, caseOf, isRecord}
 use Rattle.plan.specs.Files.{hasRecord}
 use Rattle.plan.specs.Plans.{Situation, namedBy}
 use Rattle.command.specs.declared.checks.Check.{Check}
-use Rattle.command.specs.declared.checks.Check.the-variants.{WrongCase, NoFile, WrongKind, OffsetOutside, NoRecord, WrongLength, JournalFull}
+use Rattle.command.specs.declared.checks.Check.the-variants.{WrongCase, NoFile, WrongKind, OffsetOutside, NoRecord, WrongLength, JournalFull, AnswerTooLong}
 use Rattle.command.specs.declared.checks.Checked.{Checked}
 use Rattle.command.specs.declared.checks.Checked.the-variants.{Passed, Failed}
 use Rattle.decide.specs.Order.{formalChecks, boundChecks, fileChecks, order}
@@ -44,6 +45,25 @@ all-pass w [] h = tt
 all-pass w (k ∷ ks) h =
     let f = first-passes k (firstFailing w ks) (fails w k) h in
     (f .0, all-pass w ks (f .1))
+
+-- a check that is the first to fail does fail; so it is not the one of an answer that is too long
+first-fails : (k k′ : Check) (rest : Checked) (b : Bool) → pick b (Failed k) rest ≡ Failed k′ → ((b ≡ true) × (k ≡ k′)) ⊎ (rest ≡ Failed k′)
+unfolding pick
+first-fails k k′ rest true h = inl (refl, cc)
+first-fails k k′ rest false h = inr h
+
+pub failing-fails : (w : Situation) (ks : List Check) (k : Check) → firstFailing w ks ≡ Failed k → fails w k ≡ true
+unfolding firstFailing
+failing-fails w [] k h = absurd (let z : _≡_ {A = ℕ} 0 1 = cc in omega arith)
+failing-fails w (x ∷ ks) k h =
+    ⊎-elim
+    (λ e. subst (λ (c : Check). fails w c ≡ true) (e .1) (e .0))
+    (λ e. failing-fails w ks k e)
+    (first-fails x k (firstFailing w ks) (fails w x) h)
+
+pub never-too-long : {A : Type 0} (w : Situation) (ks : List Check) (k : Check) → firstFailing w ks ≡ Failed k → k ≡ AnswerTooLong → A
+unfolding fails
+never-too-long w ks k h e = absurd (false≢true (failing-fails w ks AnswerTooLong (rw e at h)))
 
 -- of the checks on a file, those that a plan rests on
 pub record Passes (w : Situation) : Type 0 where

@@ -30,7 +30,7 @@ use Rattle.decide.specs.Fails.{fails, firstFailing, renews}
 use Rattle.decide.specs.Decisions.{situation, planned}
 use Rattle.decide.proofs.Order.{later-response, record-kind}
 use Rattle.decide.proofs.Instructed.{of-planned, by-instruction}
-use Rattle.decide.proofs.Passing.{AllPass, all-pass, Passes, passed, data-some, kind-increased, offset-read, length-binary, length-record, length-increased, named-there}
+use Rattle.decide.proofs.Passing.{AllPass, all-pass, never-too-long, Passes, passed, data-some, kind-increased, offset-read, length-binary, length-record, length-increased, named-there}
 use Rattle.plan.proofs.Fit.{Fit, fit-failed, fit-response, fit-read, fit-select, fit-update, fit-switch, fit-record, fit-rewrite, fit-search, fit-increase}
 
 -- GET RESPONSE, the last of the instructions that there are: where its checks are passed, bytes wait
@@ -122,4 +122,4 @@ module _ (format : Format) (domain : ℕ) (c : Command) («data» : List ℕ) (s
 
   pub planned-fit : length «data» ≤ 255 → Fit format card (s .root) c (planned w)
   unfolding situation
-  planned-fit brief = of-planned (Fit format card (s .root) c) w (fit-failed card c s good format) (fit-done brief)
+  planned-fit brief = of-planned (Fit format card (s .root) c) w (λ k h. fit-failed card c s good format k (never-too-long w (order (c .instruction)) k h)) (fit-done brief)

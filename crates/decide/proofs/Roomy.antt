@@ -73,4 +73,4 @@ module _ (format : Format) (domain : ℕ) (c : Command) («data» : List ℕ) (s
 
   pub planned-room : Room (planned w .writes)
   unfolding situation failed
-  planned-room = of-planned (λ (p : Plan). Room (p .writes)) w (λ k. free [] refl) done-room
+  planned-room = of-planned (λ (p : Plan). Room (p .writes)) w (λ k h. free [] refl) done-room

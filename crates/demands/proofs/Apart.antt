@@ -5,7 +5,7 @@
 -- (`every-last`), which leaves the card of the run. The session is good there and of the application's root, so that its directory
 -- and its file belong to it. Assumes nothing.
 use Prim.Native.Nat.{ℕ, zero, suc, _+_, _≤_, _<_}
-use mathlib.Core.Path.{_≡_, sym, subst, _∙_}
+use mathlib.Core.Path.{_≡_, refl, sym, subst, _∙_}
 use mathlib.Core.Bool.{Bool}
 use mathlib.Core.List.{List, [], _∷_}
 use lib.Dec.{ltb}
@@ -96,7 +96,7 @@ module _ (root : ℕ) (back before : Card) where
   capdu-apart definite domain bytes p g b =
       let st = p .state in
       let sound = card-table (st .card) (g .0 .sound) in
-      let next = plan-apart root before st (g .1) sound _ (limited-fit Expanded domain _ _ (st .step .session .standing) (st .card) sound (g .0 .good) (expanded.brief bytes (capduCommand bytes .from) b) _ _) in
+      let next = plan-apart root before st (g .1) sound _ (limited-fit Expanded domain _ _ (st .step .session .standing) (st .card) sound (g .0 .good) (expanded.brief bytes (capduCommand bytes .from) b) refl _ _) in
       on-pick (λ (q : Progress). step.Apart root before (q .state)) _ _ _ (λ _. next) (λ _. next)
 
   piece-goes : (definite : Bool) (domain : ℕ) (p : Progress) (piece : Piece) → Goes (p .state) → Small piece → Goes (pieceDone definite domain p piece .state)

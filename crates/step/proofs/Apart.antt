@@ -25,11 +25,13 @@ use Rattle.session.specs.Session.{startStanding}
 use Rattle.session.specs.Good.{Good}
 use Rattle.session.proofs.Good.{root-kept}
 use Rattle.command.specs.declared.Format.{Format}
+use Rattle.command.specs.declared.Format.the-variants.{Expanded}
 use Rattle.command.specs.declared.Command.{Command}
 use Rattle.command.specs.declared.checks.Check.the-variants.{AnswerTooLong}
 use Rattle.command.specs.declared.Outcome.{Outcome}
 use Rattle.command.specs.declared.Outcome.the-variants.{Well, FromFiles, FromWaiting, Error}
 use Rattle.command.specs.Outcomes.{wordOf, isError, goesOn}
+use Rattle.command.proofs.Says.{says-stops}
 use Rattle.plan.specs.Ends.{Plan}
 use Rattle.plan.proofs.Own.{placeIn, sizeIn, ReadsOwn, perform-leaves}
 use Rattle.plan.proofs.Fit.{Fit, fit-failed}
@@ -43,18 +45,18 @@ module _ (format : Format) (domain : ℕ) (c : Command) («data» : List ℕ) (s
   abbrev plan : Plan
   plan = planned (situation format domain c «data» s card)
 
-  pub limited-fit : (kept : ℕ) (counts : Bool) → Fit format card (s .root) c (limited kept counts s plan)
+  pub limited-fit : format ≡ Expanded → (kept : ℕ) (counts : Bool) → Fit format card (s .root) c (limited kept counts s plan)
   unfolding limited
-  limited-fit kept counts =
+  limited-fit here kept counts =
       on-pick (Fit format card (s .root) c) _ _ _
-      (λ y. fit-failed card c s good format AnswerTooLong)
+      (λ y. fit-failed card c s good format AnswerTooLong (λ e. here))
       (λ n. planned-fit format domain c «data» s card sound good brief)
 
   pub planned-stops : goesOn (wordOf (plan .outcome)) ≡ not (isError (plan .outcome))
-  planned-stops = planned-fit format domain c «data» s card sound good brief .stops
+  planned-stops = says-stops format _ (planned-fit format domain c «data» s card sound good brief .says)
 
-  pub limited-stops : (kept : ℕ) (counts : Bool) → goesOn (wordOf (limited kept counts s plan .outcome)) ≡ not (isError (limited kept counts s plan .outcome))
-  limited-stops kept counts = limited-fit kept counts .stops
+  pub limited-stops : format ≡ Expanded → (kept : ℕ) (counts : Bool) → goesOn (wordOf (limited kept counts s plan .outcome)) ≡ not (isError (limited kept counts s plan .outcome))
+  limited-stops here kept counts = says-stops format _ (limited-fit here kept counts .says)
 
 -- the bytes of an entry of a table, in a memory of a card
 abbrev pub ownBytes : Memory → List ℕ → ℕ → Card → List ℕ

@@ -88,7 +88,7 @@ module _ (w : Situation) where
       (λ _. still-response s (w .command))
 
   pub error-still : Still s (planned w)
-  error-still = of-planned (Still s) w (still-failed s) (λ _. still-by (w .command .instruction))
+  error-still = of-planned (Still s) w (λ k h. still-failed s k) (λ _. still-by (w .command .instruction))
 
   pub limited-still : (kept : ℕ) (counts : Bool) → Still s (limited kept counts s (planned w))
   unfolding limited

@@ -107,7 +107,7 @@ module _ (w : Situation) where
   pub no-data : (eqb (w .command .case) 2 || eqb (w .command .case) 4) ≡ false → dataCount (planned w .outcome) ≡ 0
   unfolding order formalChecks fails failed
   no-data h =
-      of-planned Bare w (λ k. refl)
+      of-planned Bare w (λ k h. refl)
       (λ none.
       let all = all-pass w (order (w .command .instruction)) none in
       let its : w .command .case ≡ caseOf (w .command .instruction) p2 = case-right _ _ (all .1 .1 .1 .1 .0) in
