@@ -1,0 +1,5 @@
+pub mod Rows
+pub mod Carried
+pub mod Scripts
+pub mod Sizes
+pub mod Builds
