@@ -1,0 +1,4 @@
+pub mod Places
+pub mod Fits
+pub mod Going
+pub mod Determined

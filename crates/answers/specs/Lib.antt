@@ -1,0 +1,5 @@
+pub mod Words
+pub mod Results
+pub mod Told
+pub mod Answers
+pub mod Promised
