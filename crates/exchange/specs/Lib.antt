@@ -1,0 +1,4 @@
+pub mod Understood
+pub mod ReadBack
+pub mod Damaged
+pub mod Exchange
