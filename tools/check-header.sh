@@ -1,8 +1,8 @@
 #!/usr/bin/env bash
-# Checks include/rfm.h: that C and C++ compilers and cppcheck have nothing to say of it, of include/rfm_text.c and of the
-# examples; that two memories swapped, or an answer not looked at, are refused; that a script's form is the one that the
-# rules say; that its texts are README's tables and its figures those of docs/MEASURES.md. Takes seconds and needs no
-# library. Build products go to target/header/.
+# Checks include/rfm.h and include/rfm_desk.h: that C and C++ compilers and cppcheck have nothing to say of them, of
+# include/rfm_text.c and of the examples; that two memories swapped, or an answer not looked at, are refused; that a
+# script's form is the one that the rules say, and an operation's row too; that the texts are README's tables and the
+# figures those of docs/MEASURES.md. Takes seconds and needs no library. Build products go to target/header/.
 set -euo pipefail
 . "$(dirname "${BASH_SOURCE[0]}")/machine.sh"
 cd "$root"
@@ -80,6 +80,43 @@ int uses(struct rfm_entry *table, uint8_t *files, struct rfm_journal *journal, u
 }
 END
 
+# The same for the desk's header.
+cat > "$out/uses_desk.c" <<'END'
+#include "rfm_desk.h"
+
+typedef char most_operations[RFM_MOST_OPERATIONS == 40 && RFM_MOST_ANSWER == 0xFFFFFF ? 1 : -1];
+
+#ifndef WRONG
+#define WRONG 0
+#endif
+
+int uses_desk(uint8_t *row, uint8_t *script);
+
+int uses_desk(uint8_t *row, uint8_t *script)
+{
+    static const uint8_t data[] = {0x7F, 0x10};
+    const size_t size = RFM_OPERATION_SIZE;
+    uint64_t packed;
+
+    rfm_operation(row, RFM_SELECT, RFM_NO_MODE, 0, 0, sizeof data);
+#if WRONG == 1 /* the script written over the data */
+    packed = rfm_build(RFM_COMPACT, row, size, script, RFM_MOST_SCRIPT, data, sizeof data);
+#elif WRONG == 2 /* the answer not looked at */
+    rfm_build(RFM_COMPACT, row, size, data, sizeof data, script, RFM_MOST_SCRIPT);
+#elif WRONG == 3
+    rfm_read_answer(RFM_COMPACT, data, sizeof data);
+#endif
+    packed = rfm_build(RFM_COMPACT, row, size, data, sizeof data, script, RFM_MOST_SCRIPT);
+    if (RFM_NUMBER(packed) != RFM_BUILT || RFM_COUNT(packed) != 1)
+        return RFM_NUMBER(packed) == RFM_NOT_CARRIED;
+    packed = rfm_read_answer(RFM_EXPANDED, data, sizeof data);
+    if (RFM_NUMBER(packed) != RFM_ANSWER_READ)
+        return RFM_NUMBER(packed) == RFM_ANSWER_DAMAGED;
+    packed = rfm_result(RFM_EXPANDED, data, sizeof data, RFM_LENGTH(packed));
+    return RFM_WORD(packed) == RFM_OTHER_TAG && RFM_DATA(packed) + RFM_DATA_LENGTH(packed) == 0;
+}
+END
+
 # Compiles each source by itself: compile COMPILER WORD.. -- SOURCE..
 compile() {
     local words=()
@@ -91,7 +128,7 @@ compile() {
 # follows a statement, that a pointer is indexed.
 strict=(-Wall -Wextra -Wpedantic -Wconversion -Werror)
 all=(-Weverything -Wno-padded -Wno-declaration-after-statement -Wno-unknown-warning-option -Wno-unsafe-buffer-usage)
-header=(include/rfm_text.c "$out/uses.c")
+header=(include/rfm_text.c "$out/uses.c" "$out/uses_desk.c")
 for standard in c99 c11; do
     compile gcc -std=$standard "${strict[@]}" -- "${header[@]}" examples/*.c
     compile clang -std=$standard "${strict[@]}" "${all[@]}" -- "${header[@]}" examples/*.c
@@ -103,14 +140,18 @@ done
 cppcheck -q --enable=warning,style,performance,portability --inconclusive --error-exitcode=1 --std=c99 -Iinclude \
     "${header[@]}" examples/*.c
 
-# What must be refused: by C, where a pointer of another type is an error, and by C++.
-for ((wrong = 1; wrong <= 10; wrong++)); do
-    if compile gcc -std=c11 -pedantic-errors -Werror=unused-result -DWRONG=$wrong -- "$out/uses.c" 2> /dev/null ||
-        compile g++ -x c++ -std=c++17 -Werror=unused-result -DWRONG=$wrong -- "$out/uses.c" 2> /dev/null; then
-        echo "the header lets mistake $wrong of $out/uses.c pass" >&2
-        exit 1
-    fi
-done
+# What must be refused: by C, where a pointer of another type is an error, and by C++: refuse SOURCE MISTAKES
+refuse() {
+    for ((wrong = 1; wrong <= $2; wrong++)); do
+        if compile gcc -std=c11 -pedantic-errors -Werror=unused-result -DWRONG=$wrong -- "$1" 2> /dev/null ||
+            compile g++ -x c++ -std=c++17 -Werror=unused-result -DWRONG=$wrong -- "$1" 2> /dev/null; then
+            echo "the header lets mistake $wrong of $1 pass" >&2
+            exit 1
+        fi
+    done
+}
+refuse "$out/uses.c" 10
+refuse "$out/uses_desk.c" 3
 
 # The form of a script: by its number, or expanded where it starts with AA or AE and compact else.
 cat > "$out/forms.c" <<'END'
@@ -133,6 +174,24 @@ int main(void)
 END
 gcc -Iinclude -o "$out/forms" "$out/forms.c"
 "$out/forms" || { echo "include/rfm.h: rfm_form gives a form that is not the script's" >&2; exit 1; }
+
+# The row of an operation: its numbers are big-endian.
+cat > "$out/rows.c" <<'END'
+#include "rfm_desk.h"
+
+int main(void)
+{
+    uint8_t row[RFM_OPERATION_SIZE + 1] = {0};
+
+    rfm_operation(row, 0x01, 0x23, 0x4567, 0x89AB, 0xCDEF);
+    for (unsigned i = 0; i < RFM_OPERATION_SIZE; i++)
+        if (row[i] != 0x22 * i + 1)
+            return 1;
+    return row[RFM_OPERATION_SIZE];
+}
+END
+gcc -Iinclude -o "$out/rows" "$out/rows.c"
+"$out/rows" || { echo "include/rfm_desk.h: rfm_operation writes another row" >&2; exit 1; }
 
 # The texts, by README's rows.
 cat > "$out/texts.c" <<'END'
