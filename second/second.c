@@ -2,15 +2,7 @@
  * request's. */
 #include "second.h"
 
-#include <stdbool.h>
-
-#if __STDC_HOSTED__
-#include <string.h>
-#else /* -ffreestanding: the few functions, declared by hand */
-void *memcpy(void *restrict to, const void *restrict from, size_t n);
-void *memset(void *at, int byte, size_t n);
-int memcmp(const void *a, const void *b, size_t n);
-#endif
+#include "rules.h"
 
 /* ---- The paper's limits ------------------------------------------------ */
 
@@ -25,12 +17,9 @@ enum {
     MOST_SCRIPTS = 16,
     TAIL_SIZE = 8,
     MOST_OLD_BYTES = 255,
-    MOST_SCRIPT = 1024,
     LEAST_RESPONSE = 1024,
     MOST_KEPT = 1000,
     MOST_INCREASE_RECORD = 127,
-    MOST_READ = 256,
-    MOST_PATH = 16, /* 8 identifiers */
     WAITING_SIZE = 255
 };
 
@@ -57,29 +46,7 @@ enum { AT_PLACE = 2, AT_N = 4 };
 /* The kinds of a journal entry. */
 enum { MARK = 1, FILE_BYTES = 2, TABLE_BYTE = 3 };
 
-enum { COMPACT = 0, EXPANDED = 1, DETECT = 2 };
 enum { DOMAIN_OPEN = 0x00, DOMAIN_CLOSED = 0xFF };
-
-enum {
-    SELECT = 0xA4, READ_BINARY = 0xB0, UPDATE_BINARY = 0xD6, READ_RECORD = 0xB2,
-    UPDATE_RECORD = 0xDC, SEARCH = 0xA2, INCREASE = 0x32, DEACTIVATE = 0x04,
-    ACTIVATE = 0x44, GET_RESPONSE = 0xC0
-};
-
-enum { BY_IDENTIFIER = 0x00, PATH_FROM_ROOT = 0x08, PATH_FROM_DIRECTORY = 0x09 };
-enum { WITH_FCP = 0x04, NO_DATA = 0x0C };
-enum { NEXT = 0x02, PREVIOUS = 0x03, ABSOLUTE = 0x04 };
-enum { FORWARD = 0x04, BACKWARD = 0x05 };
-
-/* The status words. */
-enum {
-    NO_FAULT = 0x0000, /* no status word: go on with the next check */
-    WELL = 0x9000, SHORT_OR_NONE = 0x6282, WELL_DEACTIVATED = 0x6283, WAITS = 0x6100,
-    JOURNAL_FULL = 0x6581, WRONG_LENGTH = 0x6700, WRONG_KIND = 0x6981,
-    NOT_ALLOWED = 0x6982, IS_DEACTIVATED = 0x6984, NOT_NOW = 0x6985, NO_FILE_CURRENT = 0x6986,
-    NOT_FOUND = 0x6A82, NO_RECORD = 0x6A83, WRONG_P1P2 = 0x6A86, WRONG_OFFSET = 0x6B00,
-    UNKNOWN_INSTRUCTION = 0x6D00, WRONG_CLASS = 0x6E00, NO_ROOM = 0x6F00, SUM_TOO_LONG = 0x9850
-};
 
 /* The call numbers. */
 enum {
@@ -95,16 +62,6 @@ struct card {
     size_t files_length;
     uint8_t *journal;
 };
-
-/* "Numbers are big-endian." */
-static inline unsigned number_at(const uint8_t *at) { return (unsigned)at[0] << 8 | at[1]; }
-
-/* Writes such a number. */
-static inline void put_number(uint8_t *at, unsigned number)
-{
-    at[0] = (uint8_t)(number >> 8);
-    at[1] = (uint8_t)number;
-}
 
 /* The bytes of a table entry. */
 static inline uint8_t *entry_of(const struct card *card, size_t number)
@@ -125,12 +82,6 @@ static inline bool is_directory(const uint8_t *entry) { return entry[AT_KIND] <=
 static inline unsigned record_count(const uint8_t *entry)
 {
     return number_at(entry + AT_LENGTH) / entry[AT_RECORD_LENGTH];
-}
-
-/* What a call answers, as second.h has it. */
-static uint64_t answer_of(unsigned number, uint32_t count, size_t length)
-{
-    return number | (uint64_t)count << 8 | (uint64_t)length << 32;
 }
 
 /* ---- Sound: the table -------------------------------------------------- */
@@ -405,13 +356,6 @@ static struct outcome unchanged(const struct session *session)
 {
     return (struct outcome){.directory = session->directory, .file = session->file,
                             .record = session->record};
-}
-
-/* "9000, 6282, 6283 and 61xx go on; every other word stops the script." */
-static bool goes_on(unsigned word)
-{
-    return word == WELL || word == SHORT_OR_NONE || word == WELL_DEACTIVATED ||
-           (word & 0xFF00) == WAITS;
 }
 
 /* "A writing command that ends well appends 8 + n for its file bytes, then 9 for a table
@@ -962,8 +906,6 @@ static bool is_outgoing(uint8_t ins)
 
 /* ---- Compact ----------------------------------------------------------- */
 
-enum { HEADER_SIZE = 5 };
-
 /* "A4, D6, DC, A2 and 32 carry P3 data bytes". */
 static bool carries_data(uint8_t ins)
 {
@@ -1056,8 +998,7 @@ static uint64_t run_compact(const struct card *card, struct session *session,
 
 /* ---- Expanded: reading the script -------------------------------------- */
 
-enum { TAG_AA = 0xAA, TAG_AE = 0xAE, INDEFINITE = 0x80, LEAST_APDU = 4 };
-enum { IS_LENGTH = 0, OTHER_TAG = 1, BAD_LENGTH = 2, NO_LENGTH = 3 };
+enum { TAG_AE = 0xAE, LEAST_APDU = 4 };
 
 /* "Lengths: 00-7F, 81 80-FF, 82 0100-FFFF, shortest form only." "03 no length byte, or too few
  * after 81 or 82; 02 other length form". A length moves the place behind itself. */
@@ -1121,7 +1062,7 @@ static unsigned read_c_apdu(struct script *script, const uint8_t **apdu, size_t 
 {
     const uint8_t tag = script->bytes[script->place];
 
-    if (tag != 0x22 && tag != 0xA2)
+    if (tag != TAG_C_APDU && tag != 0xA2)
         return OTHER_TAG;
     script->place++;
     const unsigned bad = read_length(script->bytes, script->end, &script->place, size);
@@ -1195,22 +1136,6 @@ struct kept {
     uint8_t bytes[MOST_KEPT + LAST_R_APDU];
 };
 
-/* The bytes of a length in shortest form. */
-static size_t length_size(size_t length) { return length < 0x80 ? 1 : length < 0x100 ? 2 : 3; }
-
-/* Writes a length in shortest form; answers the place behind it. */
-static uint8_t *put_length(uint8_t *at, size_t length)
-{
-    if (length >= 0x100) {
-        *at++ = 0x82;
-        *at++ = (uint8_t)(length >> 8);
-    } else if (length >= 0x80) {
-        *at++ = 0x81;
-    }
-    *at++ = (uint8_t)length;
-    return at;
-}
-
 /* The bytes of a whole R-APDU. */
 static size_t r_apdu_size(size_t data_length)
 {
@@ -1222,7 +1147,7 @@ static void keep_r_apdu(struct kept *kept, const struct outcome *outcome, unsign
 {
     uint8_t *at = kept->bytes + kept->length;
 
-    *at++ = 0x23;
+    *at++ = TAG_R_APDU;
     at = put_length(at, outcome->data_length + 2);
     if (outcome->data_length > 0)
         memcpy(at, outcome->data, outcome->data_length);
@@ -1235,7 +1160,7 @@ static void keep_bad_format(struct kept *kept, unsigned code)
 {
     uint8_t *at = kept->bytes + kept->length;
 
-    at[0] = 0x90;
+    at[0] = TAG_BAD_FORMAT;
     at[1] = 0x01;
     at[2] = (uint8_t)code;
     kept->length += 3;
@@ -1273,16 +1198,16 @@ static size_t put_answer(uint8_t *response, bool definite, uint32_t count,
 
     if (definite) {
         const size_t count_size = count < 0x80 ? 1 : 2;
-        *at++ = 0xAB;
+        *at++ = TAG_AB;
         at = put_length(at, 2 + count_size + kept->length);
-        *at++ = 0x80;
+        *at++ = TAG_COUNT;
         *at++ = (uint8_t)count_size;
         if (count_size == 2)
             *at++ = (uint8_t)(count >> 8);
         *at++ = (uint8_t)count;
     } else {
-        *at++ = 0xAF;
-        *at++ = 0x80;
+        *at++ = TAG_AF;
+        *at++ = INDEFINITE;
     }
     if (kept->length > 0)
         memcpy(at, kept->bytes, kept->length);
