@@ -1,6 +1,7 @@
 /* The test of the second program: the worked card, then the points of docs/DECISIONS.md, then
  * histories and random input. Every expected byte is written by hand from the paper's text. A case
- * whose name begins with a number is of the point with that number, one with K1 of that request. */
+ * whose name begins with a number is of the point with that number, one with K1 or K2 of that
+ * request. */
 #include "test_kit.h"
 
 /* "S 00D60000020141: 039000, U 18; taken back, all as before." */
@@ -89,5 +90,7 @@ int main(void)
     test_expanded();
     test_histories();
     test_random();
+    test_desk();
+    test_desk_text();
     return report() ? 0 : 1;
 }

@@ -9,11 +9,13 @@ mkdir -p "$out" || exit 1
 
 warnings="-std=c11 -Wall -Wextra -Werror"
 sanitizers="-fsanitize=address,undefined -fno-sanitize-recover=all"
-sources=("$here"/second.c "$here"/test*.c)
+sources=("$here"/second.c "$here"/desk.c "$here"/desk_text.c "$here"/test*.c)
 failed=0
 
-# The program itself needs no C library.
-$cc $warnings -O2 -ffreestanding -c "$here"/second.c -o "$out"/second-freestanding.o || failed=1
+# The calls themselves need no C library.
+for calls in second desk; do
+    $cc $warnings -O2 -ffreestanding -c "$here"/$calls.c -o "$out"/$calls-freestanding.o || failed=1
+done
 
 if $cc $warnings -O2 "${sources[@]}" -o "$out"/test; then
     "$out"/test || failed=1

@@ -172,9 +172,8 @@ static void print_some(const uint8_t *at, size_t length)
         printf(".. (%zu bytes)", length);
 }
 
-/* Fails the case if length or bytes differ. */
-static void check_bytes(const char *what, const uint8_t *expected, size_t expected_length,
-                        const uint8_t *got, size_t length)
+void check_bytes(const char *what, const uint8_t *expected, size_t expected_length,
+                 const uint8_t *got, size_t length)
 {
     if (expected_length == length && (length == 0 || memcmp(expected, got, length) == 0))
         return;
@@ -211,8 +210,7 @@ bool report(void)
 
 /* ---- The three calls ---- */
 
-/* A copy on memory of exactly this length; NULL for length 0. */
-static uint8_t *lend(const uint8_t *from, size_t length)
+uint8_t *lend(const uint8_t *from, size_t length)
 {
     if (length == 0)
         return NULL;

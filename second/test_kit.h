@@ -29,10 +29,10 @@ enum { FULL_RESPONSE = 1024 };
 /* A journal entry of kind 1. */
 #define MARK "0100000000000000 "
 
-/* Bytes that a test puts together; file memory with room to be too long. */
+/* Bytes that a test puts together: file memory, or a list's data, with room to be too long. */
 struct bytes {
     size_t length;
-    uint8_t at[34000];
+    uint8_t at[66000];
 };
 
 /* A card as it lies on the test's own side; each call gets copies of exactly these lengths. */
@@ -75,14 +75,19 @@ void fill_journal(struct card_bytes *c, unsigned marks, size_t used);
 
 /* Starts a case; what fails after it is printed under this name, at most one line for each. */
 void start_case(const char *name);
-/* Each fails the case if it does not hold, if two numbers differ, if the bytes do not begin with
- * the expected ones, or if two cards differ. */
+/* Each fails the case if it does not hold, if two numbers differ, if length or bytes differ, if the
+ * bytes do not begin with the expected ones, or if two cards differ. */
 void check(bool holds, const char *what);
 void check_number(const char *what, unsigned long expected, unsigned long got);
+void check_bytes(const char *what, const uint8_t *expected, size_t expected_length,
+                 const uint8_t *got, size_t length);
 void check_part(const char *what, const uint8_t *got, const char *expected_hex);
 void check_card(const char *what, const struct card_bytes *expected, const struct card_bytes *got);
 /* Prints 'second: N cases, M failed' and answers whether M is 0. */
 bool report(void);
+
+/* A copy on memory of exactly this length, to be freed; NULL for length 0. */
+uint8_t *lend(const uint8_t *from, size_t length);
 
 /* ---- The three calls, on memory of exactly the given lengths ----
  * Each checks what holds always: a refusal has length and count 0 and changes nothing, the
@@ -141,5 +146,7 @@ void test_files(void);
 void test_expanded(void);
 void test_histories(void); /* in test_random.c */
 void test_random(void);
+void test_desk(void);
+void test_desk_text(void);
 
 #endif
