@@ -35,8 +35,8 @@ static void call_program(void *context)
     }
 }
 
-/* Fills response memory with a pattern. */
-static void fill_response(uint8_t *response)
+/* Fills response memory, or script memory of its length, with a pattern. */
+void fill_response(uint8_t *response)
 {
     static uint8_t pattern[sizeof((struct answer *)0)->response];
 
@@ -51,12 +51,12 @@ void make_call(const struct program *program, struct card *card, const struct ca
                struct answer *answer)
 {
     static uint8_t script[sizeof call->script.at];
-    const struct part own[MEMORIES] = {[TABLE] = {card->table.at, card->table.length},
+    const struct part own[OPERATIONS] = {[TABLE] = {card->table.at, card->table.length},
                                        [FILES] = {card->files.at, card->files.length},
                                        [JOURNAL] = {card->journal.at, card->journal.length},
                                        [SCRIPT] = {script, call->script.length},
                                        [RESPONSE] = {answer->response, call->response_length}};
-    const size_t end = call->kind == RUN ? MEMORIES : SCRIPT;
+    const size_t end = call->kind == RUN ? OPERATIONS : SCRIPT;
     struct lending lending = {.program = program, .call = call};
 
     fill_response(answer->response);

@@ -6,6 +6,9 @@
 #include <stdio.h>
 #include <stdlib.h>
 
+/* So many calls on cards go with one round at the desk. */
+enum { CALLS_PER_ROUND = 20 };
+
 /* Reads a decimal number. */
 static bool read_number(const char *text, unsigned long long *number)
 {
@@ -19,8 +22,12 @@ static bool read_number(const char *text, unsigned long long *number)
 static int show(const char *where, struct history *history, struct difference *difference)
 {
     printf("compare: a difference %s\n", where);
-    shorten(history, difference);
-    print_history(history, difference);
+    if (difference->against == AT_DESK) {
+        print_desk_call(difference);
+    } else {
+        shorten(history, difference);
+        print_history(history, difference);
+    }
     return 1;
 }
 
@@ -28,7 +35,7 @@ int main(int count, char **arguments)
 {
     static struct history history;
     struct difference difference;
-    unsigned long long seed, wanted, calls = 0, histories = 0;
+    unsigned long long seed, wanted, calls = 0, histories = 0, rounds = 0;
 
     if (count != 3 || !read_number(arguments[1], &seed) || !read_number(arguments[2], &wanted)) {
         printf("compare SEED CALLS\n");
@@ -36,6 +43,8 @@ int main(int count, char **arguments)
     }
     if (!sweep(&history, &difference))
         return show("in the sweep", &history, &difference);
+    if (!compare_longest(&difference))
+        return show("in the longest answer", &history, &difference);
     start_random(seed);
     for (; calls < wanted; calls += history.count, histories++) {
         if (!compare_history(&history, &difference)) {
@@ -44,8 +53,11 @@ int main(int count, char **arguments)
             return show(after, &history, &difference);
         }
     }
+    for (; rounds < wanted / CALLS_PER_ROUND; rounds++)
+        if (!compare_desk(&history, &difference))
+            return show("at the desk", &history, &difference);
     const bool all_reached = print_coverage();
-    printf("compare: the sweep; seed %llu, %llu calls in %llu histories, no difference\n", seed,
-           calls, histories);
+    printf("compare: the sweep; seed %llu, %llu calls in %llu histories, %llu rounds at the desk, "
+           "no difference\n", seed, calls, histories, rounds);
     return all_reached ? 0 : 2;
 }

@@ -8,7 +8,7 @@
 #include <stddef.h>
 #include <stdint.h>
 
-#include "rfm.h"
+#include "rfm_desk.h"
 
 /* ---- The lent card ---- */
 
@@ -105,14 +105,21 @@ struct script {
 
 enum call_kind { RUN, TAKE_BACK, CONFIRM, CALL_KINDS };
 
-/* The three calls of one of the two programs, as rfm.h and second.h have them. */
+/* The calls of one of the two programs, as rfm.h and rfm_desk.h have them. */
 typedef uint64_t run_call(uint8_t *, size_t, uint8_t *, size_t, uint8_t *, size_t, size_t, uint8_t,
                           uint8_t, const uint8_t *, size_t, uint8_t *, size_t);
 typedef uint64_t card_call(uint8_t *, size_t, uint8_t *, size_t, uint8_t *, size_t);
+typedef uint64_t build_call(uint8_t, const uint8_t *, size_t, const uint8_t *, size_t, uint8_t *,
+                            size_t);
+typedef uint64_t read_call(uint8_t, const uint8_t *, size_t);
+typedef uint64_t result_call(uint8_t, const uint8_t *, size_t, size_t);
 
 struct program {
     run_call *run;
     card_call *take_back, *confirm;
+    build_call *build;
+    read_call *read_answer;
+    result_call *result;
 };
 
 /* rfm_confirm as such a call: it is lent table and files to be read only. */
@@ -146,8 +153,8 @@ struct history {
 };
 
 /* What the library is compared with: the second program, or the library itself, with the struck-out
- * calls left out or with the format found in the place of format 2. */
-enum against { SECOND, WITHOUT_STRUCK, FORMAT_FOUND };
+ * calls left out or with the format found in the place of format 2; or either at the desk. */
+enum against { SECOND, WITHOUT_STRUCK, FORMAT_FOUND, AT_DESK };
 
 /* What the library did and what was expected of it, where the two first differ. */
 struct difference {
@@ -201,6 +208,7 @@ void print_reached(unsigned long times);
 bool print_coverage(void);
 
 /* ---- histories.c, sweep.c, play.c ---- */
+size_t some_application(const struct card *card, bool wrong);
 void turn_pages(struct history *history);
 bool compare_history(struct history *history, struct difference *difference);
 bool sweep(struct history *history, struct difference *difference);
@@ -213,8 +221,15 @@ bool play(struct history *history, call_maker *next, struct difference *differen
 const struct answer *library_answer(size_t call);
 const struct answer *second_answer(size_t call);
 
+/* ---- desk.c ---- */
+bool compare_desk(struct history *history, struct difference *difference);
+bool compare_longest(struct difference *difference);
+bool reads_back(const struct call *call, const struct answer *answer,
+                struct difference *difference);
+
 /* ---- shorten.c, print.c ---- */
 void shorten(struct history *history, struct difference *difference);
 void print_history(const struct history *history, const struct difference *difference);
+void print_desk_call(const struct difference *difference);
 
 #endif

@@ -1,7 +1,7 @@
 /* What a run of the comparison must reach: every pair of instruction and status word that the
  * paper allows, in compact and in both templates of expanded, every call number, in every format,
  * and the rest named below. A pair or a number that the paper does not allow is a failure too. */
-#include "lend.h"
+#include "lists.h"
 
 #include <stdio.h>
 
@@ -275,7 +275,9 @@ bool print_coverage(void)
     print_reached(reached.taken_back);
     printf("  number 5:");
     print_reached(reached.number_5);
-    printf("\n\n");
+    printf("\n");
+    print_desk_coverage();
+    printf("\n");
     if (missing > 0)
         printf("not reached: %zu\n", missing);
     return missing == 0;

@@ -5,7 +5,7 @@
 static uint32_t take_backs;
 
 /* An application: 0 or an ADF's entry number, or another number, up to the largest. */
-static size_t some_application(const struct card *card, bool wrong)
+size_t some_application(const struct card *card, bool wrong)
 {
     size_t number = below((uint32_t)entries_of(card) + 1);
 

@@ -11,7 +11,7 @@
 #include <sys/mman.h>
 
 /* A multiple of every machine's page size, in which each memory fits with its canaries. */
-enum { PAGE = 65536 };
+enum { PAGE = 131072 };
 
 enum { CANARIES = 64 };
 static uint8_t canaries[CANARIES];
@@ -26,7 +26,9 @@ static uint8_t canaries[CANARIES];
 enum { CHANGED = SIDES };
 static const char *const outside[MEMORIES][SIDES + 1] = {
     [TABLE] = OUTSIDE("table"), [FILES] = OUTSIDE("file memory"), [JOURNAL] = OUTSIDE("journal"),
-    [SCRIPT] = OUTSIDE("script"), [RESPONSE] = OUTSIDE("response memory")};
+    [SCRIPT] = OUTSIDE("script"), [RESPONSE] = OUTSIDE("response memory"),
+    [OPERATIONS] = OUTSIDE("operations"), [DATA] = OUTSIDE("operations' data"),
+    [BUILT] = OUTSIDE("script memory"), [ANSWER] = OUTSIDE("answer")};
 
 /* The room for a memory, with a page on both sides, and what is lent in it now. */
 static struct room {
@@ -151,7 +153,7 @@ void print_lent(void)
 {
     static const char *const rows[SIDES + 1] = {"page before", "page behind", "length 0"};
 
-    printf("\n%-12s  table  files journal script response", "lent");
+    printf("\n%-12s  table  files journal script response oper.  data  built answer", "lent");
     for (size_t row = 0; row <= SIDES; row++) {
         printf("\n%-12s", rows[row]);
         for (enum lent_memory memory = TABLE; memory < MEMORIES; memory++)

@@ -4,10 +4,12 @@
 
 #include <string.h>
 
-#include "second.h"
+#include "desk.h"
 
-static const struct program library = {rfm_run, rfm_take_back, library_confirm};
-static const struct program second = {second_run, second_take_back, second_confirm};
+const struct program library = {rfm_run, rfm_take_back, library_confirm, rfm_build,
+                                rfm_read_answer, rfm_result};
+const struct program second = {second_run, second_take_back, second_confirm, second_build,
+                               second_read_answer, second_result};
 
 /* The answers to the calls of the history that was played last. */
 static struct answer library_answers[MOST_CALLS], second_answers[MOST_CALLS];
@@ -45,8 +47,8 @@ static bool differ(struct difference *difference, const char *what, size_t place
 }
 
 /* Whether two values are the same; if not, keeps the difference, as the next five do. */
-static bool same_value(const char *what, unsigned long library, unsigned long expected,
-                       struct difference *difference)
+bool same_value(const char *what, unsigned long library, unsigned long expected,
+                struct difference *difference)
 {
     return library == expected || differ(difference, what, NO_PLACE, library, expected);
 }
@@ -64,23 +66,22 @@ static bool same_bytes(const char *what, const uint8_t *library, const uint8_t *
     return differ(difference, what, place, library[place], expected[place]);
 }
 
-/* Whether neither call touched or changed what was not lent. */
-static bool kept_inside(const struct answer *library, const struct answer *expected,
-                        struct difference *difference)
+/* Whether neither call touched or changed what was not lent; each says what, or NULL. */
+bool kept_inside(const char *library, const char *expected, struct difference *difference)
 {
-    const char *what = library->outside != NULL ? library->outside : expected->outside;
+    const char *what = library != NULL ? library : expected;
 
-    return what == NULL ||
-           differ(difference, what, NO_PLACE, library->outside != NULL, expected->outside != NULL);
+    return what == NULL || differ(difference, what, NO_PLACE, library != NULL, expected != NULL);
 }
 
-/* Compares number, count, length and the whole response memory; the script is as it was. */
-static bool same_answer(const struct answer *library, const struct answer *expected,
-                        struct difference *difference)
+/* Compares number, count, length and the whole response memory, or script memory; what was lent to
+ * be read is as it was. */
+bool same_answer(const struct answer *library, const struct answer *expected,
+                 struct difference *difference)
 {
     const uint64_t a = library->result, b = expected->result;
 
-    return kept_inside(library, expected, difference) &&
+    return kept_inside(library->outside, expected->outside, difference) &&
            same_value("number", RFM_NUMBER(a), RFM_NUMBER(b), difference) &&
            same_value("count", RFM_COUNT(a), RFM_COUNT(b), difference) &&
            same_value("length", RFM_LENGTH(a), RFM_LENGTH(b), difference) &&
@@ -190,6 +191,7 @@ static bool play_call(const struct call *call, size_t i, struct difference *diff
            same_card(&library_card, &second_card, difference) &&
            same_value("answer that the paper allows", note_answer(call, &library_answers[i]), true,
                       difference) &&
+           reads_back(call, &library_answers[i], difference) &&
            (!detected ||
             same_as_found(call, &before, &library_answers[i], &library_card, difference));
 }

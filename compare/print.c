@@ -1,5 +1,5 @@
 /* Prints a history that shows a difference. */
-#include "compare.h"
+#include "lists.h"
 
 #include <stdio.h>
 #include <string.h>
@@ -61,7 +61,8 @@ static void print_difference(const struct difference *difference)
         const char *heading, *expected;
     } texts[] = {[SECOND] = {"", "expected"},
                  [WITHOUT_STRUCK] = {" without the struck-out calls", "without them"},
-                 [FORMAT_FOUND] = {" with the format found", "with it"}};
+                 [FORMAT_FOUND] = {" with the format found", "with it"},
+                 [AT_DESK] = {" at the desk", "expected"}};
 
     printf("difference%s in call %zu: %s", texts[difference->against].heading,
            difference->call + 1, difference->what);
@@ -79,5 +80,27 @@ void print_history(const struct history *history, const struct difference *diffe
     print_memory("journal", &history->start.journal);
     for (size_t i = 0; i < history->count; i++)
         print_call(history, i);
+    print_difference(difference);
+}
+
+/* Prints the last call at the desk and its difference. */
+void print_desk_call(const struct difference *difference)
+{
+    const struct desk_call *const call = last_desk_call();
+
+    if (call->builds) {
+        printf("build, format %u, script memory %zu bytes\n  operations: ", call->format,
+               call->script_length);
+        print_hex(call->list.operations, call->list.operations_length);
+        printf("\n  data, %zu bytes: ", call->list.data_length);
+        print_hex(call->list.data, smaller(call->list.data_length, MOST_SCRIPT));
+    } else {
+        printf("read, format %u, results from %zu on", call->format, call->first);
+        for (size_t i = 0; i < PLACES; i++)
+            printf(i == 0 ? " and at %zu" : ", %zu", call->places[i]);
+        printf("\n  answer: ");
+        print_hex(call->reply.at, call->reply.length);
+    }
+    printf("\n");
     print_difference(difference);
 }

@@ -96,7 +96,7 @@ static bool goes_up(const struct card *card, size_t directory, size_t entry)
 
 /* The identifiers from below a directory to an entry; answers their bytes. Where the entry does
  * not lie below the directory the path starts at the ADF or the MF above it. */
-static size_t path_to(const struct card *card, size_t from, size_t entry, uint8_t *path)
+size_t path_to(const struct card *card, size_t from, size_t entry, uint8_t *path)
 {
     uint8_t backwards[MOST_ENTRIES];
     size_t depth = 0, length = 0;
@@ -155,7 +155,7 @@ static void go_up(struct maker *maker)
 }
 
 /* An entry below the root, a file if one is found soon. */
-static size_t some_target(const struct maker *maker)
+size_t some_target(const struct maker *maker)
 {
     size_t entry = maker->root;
 

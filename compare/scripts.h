@@ -30,6 +30,10 @@ void draw_command(struct command *command, uint8_t ins, const struct card *card,
 unsigned needed_form(const struct command *command);
 void flaw_command(struct command *command, enum flaw flaw, const uint8_t *entry);
 
+/* ---- scripts.c ---- */
+size_t some_target(const struct maker *maker);
+size_t path_to(const struct card *card, size_t from, size_t entry, uint8_t *path);
+
 /* ---- writing.c ---- */
 void add(struct maker *maker, const uint8_t *bytes, size_t length);
 size_t put_length(uint8_t *at, size_t length);
