@@ -2,20 +2,22 @@
  *
  *   measure            makes each call by both, compares all that came out, and prints for each row
  *                      group|call|number|commands|U before|U after|deepest stack of the library|of
- *                      the second program, the stack in bytes
+ *                      the second program, the stack in bytes; at the desk commands are operations
+ *                      or the answer's count, and there is no U
  *   measure ROW SIDE   makes the call of a row (from 0) by a side (0 the library, 1 the second
  *                      program, 2 none of them) */
-#include "compare.h"
-#include "rfm.h"
-#include "second.h"
+#include "../second/desk.h"
+#include "desk.h"
 
 #include <stdio.h>
 #include <stdlib.h>
 #include <string.h>
 #include <ucontext.h>
 
-static const struct program sides[] = {{rfm_run, rfm_take_back, library_confirm},
-                                       {second_run, second_take_back, second_confirm}};
+static const struct program sides[] = {{rfm_run, rfm_take_back, library_confirm, rfm_build,
+                                        rfm_read_answer, rfm_result},
+                                       {second_run, second_take_back, second_confirm, second_build,
+                                        second_read_answer, second_result}};
 
 /* ---- The rows ---- */
 
@@ -293,15 +295,17 @@ static void make_row_script(struct call *call, const struct row *row)
 
 /* ---- Making a call ---- */
 
-/* A call with all that it is lent. */
+/* A call with all that it is lent, on a card or at the desk. */
 struct lent {
     struct card card;
     struct call call;
     struct answer answer;
+    const struct desk_row *desk_row; /* or NULL */
+    struct desk_lent desk;
 };
 
-/* Makes all that a row's call is lent; it was zero before. */
-static void lend(const struct row *row, struct lent *lent)
+/* Makes all that the call of a row on a card is lent; it was zero before. */
+static void lend_card(const struct row *row, struct lent *lent)
 {
     struct memory *files = &lent->card.files;
 
@@ -323,8 +327,19 @@ static void lend(const struct row *row, struct lent *lent)
         lent->call.format = RFM_DETECT;
 }
 
-/* Makes the call by one of the two programs. */
-static void make_call(const struct program *side, struct lent *lent)
+/* Makes all that the call of a row is lent, those of the desk being the last. */
+static void lend(size_t row, struct lent *lent)
+{
+    if (row < ROWS) {
+        lend_card(&rows[row], lent);
+    } else {
+        lent->desk_row = &desk_rows[row - ROWS];
+        lend_desk(lent->desk_row, &lent->desk);
+    }
+}
+
+/* Makes the call on a card by one of the two programs. */
+static void make_card_call(const struct program *side, struct lent *lent)
 {
     struct card *card = &lent->card;
     const struct call *call = &lent->call;
@@ -340,6 +355,15 @@ static void make_call(const struct program *side, struct lent *lent)
             card->table.at, card->table.length, card->files.at, card->files.length,
             card->journal.at, card->journal.length);
     lent->answer.result = result;
+}
+
+/* Makes the call by one of the two programs. */
+static void make_call(const struct program *side, struct lent *lent)
+{
+    if (lent->desk_row != NULL)
+        make_desk_call(lent->desk_row, side, &lent->desk);
+    else
+        make_card_call(side, lent);
 }
 
 /* ---- The stack of a call ---- */
@@ -392,7 +416,7 @@ static size_t deepest_stack(const struct program *side, struct lent *lent)
 static _Alignas(PAGE) struct lent lents[2];
 
 /* Makes the row's call by both sides and prints its line; answers whether all came out equal. */
-static bool compare_row(const struct row *row)
+static bool compare_row(size_t row)
 {
     memset(lents, 0, sizeof lents);
     lend(row, &lents[0]);
@@ -400,10 +424,15 @@ static bool compare_row(const struct row *row)
     const unsigned before = number_at(lents[0].card.journal.at);
     const size_t library = deepest_stack(&sides[0], &lents[0]);
     const size_t second = deepest_stack(&sides[1], &lents[1]);
-    const uint64_t result = lents[0].answer.result;
+    const uint64_t result = row < ROWS ? lents[0].answer.result : lents[0].desk.result;
+    const unsigned number = RFM_NUMBER(result), count = RFM_COUNT(result);
 
-    printf("%s|%s|%u|%u|%u|%u|%zu|%zu\n", row->group, row->name, RFM_NUMBER(result),
-           RFM_COUNT(result), before, number_at(lents[0].card.journal.at), library, second);
+    if (row < ROWS)
+        printf("%s|%s|%u|%u|%u|%u|%zu|%zu\n", rows[row].group, rows[row].name, number, count,
+               before, number_at(lents[0].card.journal.at), library, second);
+    else
+        printf("at the desk|%s|%u|%u|-|-|%zu|%zu\n", lents[0].desk_row->name, number, count,
+               library, second);
     return memcmp(&lents[0], &lents[1], sizeof lents[0]) == 0;
 }
 
@@ -411,12 +440,12 @@ int main(int arguments, char **argument)
 {
     if (arguments == 3) {
         const int side = atoi(argument[2]);
-        lend(&rows[atoi(argument[1])], &lents[0]);
+        lend((size_t)atoi(argument[1]), &lents[0]);
         on_own_stack(side < SIDES ? &sides[side] : NULL, &lents[0]);
         return 0;
     }
-    for (size_t i = 0; i < ROWS; i++)
-        if (!compare_row(&rows[i])) {
+    for (size_t i = 0; i < ROWS + DESK_ROWS; i++)
+        if (!compare_row(i)) {
             printf("measure: a difference in this row\n");
             return 1;
         }
