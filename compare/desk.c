@@ -81,8 +81,8 @@ static bool same_build(struct answer *answer, struct difference *difference)
                        last.list.operations_length / RFM_OPERATION_SIZE, difference));
 }
 
-/* Builds the list of the last call by both with script memory of some length, then, if there is a
- * script, of its own length and of one byte less; the script is given. */
+/* Builds the list of the last call by both with script memory of some length; a script says exactly
+ * the list, and is built again in its own length and in one byte less. It is given. */
 static bool compare_build(struct script *script, struct difference *difference)
 {
     static struct answer answer, again;
@@ -95,6 +95,9 @@ static bool compare_build(struct script *script, struct difference *difference)
         return true;
     script->length = RFM_LENGTH(answer.result);
     memcpy(script->at, answer.response, script->length);
+    if (!same_value("list told again", tells_list(script, last.format, &last.list), true,
+                    difference))
+        return false;
     last.script_length = script->length;
     if (!same_build(&again, difference) ||
         !same_value("in its own length", again.result == answer.result, true, difference))
@@ -161,7 +164,7 @@ static bool same_result(uint64_t library, uint64_t expected, struct difference *
            same_value("data's place", RFM_DATA(library), RFM_DATA(expected), difference);
 }
 
-/* Makes the last call, a reading, by both: the same number, count and place, and the same results. */
+/* Makes the last call, a reading, by both: the same number, count, place and results. */
 static bool same_reading(struct reading *library_reading, struct difference *difference)
 {
     static struct reading expected;

@@ -1,4 +1,4 @@
-/* Lists of operations: right ones for a card, and others with each field at and beyond its limits. */
+/* Lists of operations: right ones for a card, others with each field at and beyond its limits. */
 #include "lists.h"
 
 #include <string.h>

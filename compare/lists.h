@@ -21,8 +21,8 @@ struct reply {
 enum { MOST_RESULTS = 300, PLACES = 4 };
 
 /* What a program reads in an answer: the call's own answer; the results from its first place on, or
- * from a given one where it is damaged, each with its place, the last one being none; and the results
- * at some places more. */
+ * from a given one where it is damaged, each with its place, the last one being none; and those at
+ * some places more. */
 struct reading {
     uint64_t answer;
     const char *outside;
@@ -47,6 +47,9 @@ const struct desk_call *last_desk_call(void);
 
 /* ---- lists.c ---- */
 void make_list(struct list *list, const struct card *card, size_t root, uint8_t format);
+
+/* ---- tell.c ---- */
+bool tells_list(const struct script *script, uint8_t format, const struct list *list);
 
 /* ---- mangle.c ---- */
 void draw_reply(struct reply *reply, uint8_t format);

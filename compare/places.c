@@ -1,6 +1,6 @@
 /* What the desk must reach: each refusal of a build, each kind of operation, and each rule by which
- * an answer is damaged. A rule is told by the place of the first bad byte, since all before it is as
- * it must be. */
+ * an answer is damaged. A rule is told by the place of the first bad byte, as all before it is as it
+ * must be. */
 #include "lists.h"
 
 #include <stdio.h>
@@ -97,10 +97,12 @@ static const struct {
 enum { READINGS = 2, GOOD = 5 };
 
 /* Good answers that must be reached. */
-static const char *const good[GOOD] = {"no result", "a result", "data", "Bad format", "count 128.."};
+static const char *const good[GOOD] = {"no result", "a result", "data", "Bad format",
+                                       "a count above 127"};
 
 static struct {
-    unsigned long longest, too_long, numbers[FORMATS][READINGS], rules[FORMS][RULES], good[FORMS][GOOD];
+    unsigned long longest, too_long, numbers[FORMATS][READINGS];
+    unsigned long rules[FORMS][RULES], good[FORMS][GOOD];
 } read;
 
 /* An answer with the place of its first bad byte. */

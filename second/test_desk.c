@@ -565,8 +565,8 @@ static size_t good_bytes(unsigned word, size_t allowed, bool waits)
     return most;
 }
 
-/* An answer with each of the 65,536 words, the word beginning at this place: it is read, or bad where
- * the word is. */
+/* An answer with each of the 65,536 words, the word beginning at this place: it is read, or bad
+ * where the word is. */
 static void each_word(const char *name, uint8_t format, const char *hex, size_t at, size_t allowed,
                       bool waits)
 {

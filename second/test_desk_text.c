@@ -107,8 +107,9 @@ static void other_shapes(void)
 {
     static const char *const shapes[] = {
         "", " ", "\r", "x", "format=0", "select", "select=7F1", "select=7f10", "select=7F10,",
-        "select=7F10 ", " select=7F10", "select =7F10", "Select=7F10", "select=7F10\r", "select=7G10",
-        "update=0", "update=", "update=,01", "update=00,01", "update=01,01", "update=-1,01",
+        "select=7F10 ", " select=7F10", "select =7F10", "Select=7F10", "select=7F10\r",
+        "select=7G10", "update=0", "update=", "update=,01", "update=00,01", "update=01,01",
+        "update=-1,01",
         "update=+1,01", "update=65536,01", "update=100000,01", "update=0x1,01", "update=0,1",
         "update=0, 01", "update=0,01,", "update=0,01,01", "update=next,01", "read=0", "read=0,",
         "read=0,00", "read=0,1,", "read=0,65536", "read=0,A", "read=,0", "read=65536,0",
@@ -166,7 +167,7 @@ static void long_texts(void)
     static char text[MOST_BUILD_TEXT + 100];
     const size_t most = MOST_BUILD_TEXT;
 
-    /* A first line of 9 signs, "select=", 65,520 digits. */
+    /* A first line of 9 signs, 7 more, and 65,520 digits. */
     memset(text, '0', sizeof text);
     memcpy(text, "format=0\nselect=", 16);
     start_case("K2: 65,536 signs without the last line feed");
