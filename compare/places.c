@@ -1,5 +1,5 @@
 /* What the desk must reach: each refusal of a build, each kind of operation, and each rule by which
- * an answer is damaged. A rule is told by the place of the first bad byte, as all before it is as it
+ * an answer is damaged. A rule is told by the place of the first bad byte, all before it being as it
  * must be. */
 #include "lists.h"
 
@@ -193,10 +193,10 @@ static enum rule rule_of_ab(const struct damaged *of)
 {
     size_t length, place, count_length, count_place;
     enum rule rule = rule_of_length(of, 1, 1, SIZE_MAX, AB_EMPTY, &length, &place);
-    const size_t end = place + length;
 
     if (rule != RULES)
         return rule;
+    const size_t end = place + length;
     if (of->bad == place)
         return place < of->length && of->at[place] == 0x80 ? COUNT_ENDS : NO_COUNT;
     rule = rule_of_length(of, place + 1, 1, 2, COUNT_LENGTH, &count_length, &count_place);
