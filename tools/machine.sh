@@ -15,7 +15,7 @@ kit=${kit%/docs/*}
 toolchain=$kit/on/$(uname -m)/toolchain
 
 # The crates that become archives for C: libNAME.a each.
-libraries=(rfm)
+libraries=(rfm rfm_desk)
 
 # The compiler with its Debian packages, and what runs its programs.
 case $(uname -m) in

@@ -1,18 +1,19 @@
 // The C boundary: the three calls over numbers and slices alone, as include/rfm.h declares them.
+use boundary::packed;
 use engine::Answer;
 ghost use mathlib.Core.Path.{_≡_};
 ghost use mathlib.Core.List.{[]};
 ghost use Rattle.card.specs.Row.{lent};
 ghost use Rattle.engine.specs.Calls as calls;
-ghost use Rattle.rfm.specs.Packed.{packed, crosses, across};
+ghost use Rattle.rfm.specs.Packed.{packedAnswer, crosses, across};
 ghost use Rattle.engine.specs.Promised.{AnswerFits};
 
 // Returns an answer in one number.
 fn packed_answer(a: Answer) -> u64
     requires { ⌜ AnswerFits a ⌝ }
-    ensures { λ r. ⌜ r ≡ packed a ⌝ }
+    ensures { λ r. ⌜ r ≡ packedAnswer a ⌝ }
 {
-    a.number as u64 + (256 * (a.count as u64) + 4294967296 * (a.length as u64))
+    packed(a.number, a.count, a.length)
 }
 
 // Runs a script, with its answer at the front of `response`. Returns the call's number, count and length in one number.

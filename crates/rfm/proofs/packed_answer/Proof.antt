@@ -1,25 +1,14 @@
 -- `rfm::packed_answer` meets its contract. Assumes nothing.
-use mathlib.Core.Path.{refl}
 use borrow.Author.Needs.{needs}
-use Rattle.rfm.specs.Packed.{packed}
+use Rattle.rfm.proofs.Crossing.{room}
 use Rattle.rfm.proofs.packed_answer.Statement.{statement}
 use Rattle.rfm.proofs.packed_answer.Tie as tie
 
-mul-result : tie.Need-mul-result
-mul-result c = search needs
-
-mul-result-2 : tie.Need-mul-result-2
-mul-result-2 c = search needs
-
-add-result : tie.Need-add-result
-add-result c = search needs
-
-add-result-2 : tie.Need-add-result-2
-add-result-2 c = search needs
+packed-requires : tie.Need-packed-requires
+packed-requires c κs = room (c .args .a) (c .pre)
 
 returns : tie.Need-returns
-unfolding packed
-returns c = refl
+returns c = c .packed .ensures
 
 pub packed-answer-spec : {M : Type 1} → statement M
-packed-answer-spec = tie.close (tie.spec mul-result mul-result-2 add-result add-result-2 returns)
+packed-answer-spec = tie.close (tie.spec packed-requires returns)
