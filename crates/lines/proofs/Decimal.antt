@@ -12,7 +12,7 @@ use Rattle.octets.proofs.Picks.{on-test}
 use Rattle.lines.specs.Digits.{sign, decimalIn}
 
 -- a number below 10 ^ (j + 1) has j + 1 digits at most
-digits-most : (j k n : ℕ) → n < 10 ^ suc j → length (decimalIn k n) ≤ suc j
+pub digits-most : (j k n : ℕ) → n < 10 ^ suc j → length (decimalIn k n) ≤ suc j
 unfolding decimalIn
 digits-most j zero n h = omega arith
 digits-most zero (suc k) n h = rw (lt-ltb n 10 (omega arith), decimalIn) (omega arith)

@@ -3,6 +3,8 @@
 use contract.Lifetimes.{Lfts}
 use denote.Ref.{now}
 use Rattle.octets.proofs.Determined.{Determined, by-equation, pair, both}
+use Rattle.lines.proofs.digits.plain_number.Reads as plain-number
+use Rattle.lines.proofs.digits.is_hex.Reads as is-hex
 use Rattle.lines.proofs.digits.is_script.Reads as is-script
 use Rattle.lines.proofs.digits.decode.Reads as decode
 use Rattle.lines.proofs.put.put_number.Reads as put-number
@@ -23,6 +25,12 @@ module _ (κs : Lfts 0) where
 module _ (κs : Lfts 1) where
   pub value-end-determined : Determined (value-end.Learnt κs) (λ args a e. a)
   value-end-determined = by-equation (λ args a e h. h .0)
+
+  pub plain-number-determined : Determined (plain-number.Learnt κs) (λ args a e. a)
+  plain-number-determined = by-equation (λ args a e h. h .0)
+
+  pub is-hex-determined : Determined (is-hex.Learnt κs) (λ args a e. a)
+  is-hex-determined = by-equation (λ args a e h. h)
 
   pub is-script-determined : Determined (is-script.Learnt κs) (λ args a e. a)
   is-script-determined = by-equation (λ args a e h. h)

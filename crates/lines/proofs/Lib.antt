@@ -4,4 +4,5 @@ pub mod Hex
 pub mod Decimal
 pub mod Answers
 pub mod Reading
+pub mod ReadBack
 pub mod Determined

@@ -2,11 +2,12 @@
 use Prim.Native.Nat.{ℕ, zero, suc, _+_, _-_, _*_, _/_, _%_, _<_}
 use Prim.Native.Char.{code}
 use Prim.Native.String as text
-use mathlib.Core.Bool.{Bool, true, false, _&&_}
+use mathlib.Core.Bool.{Bool, true, false, not, _&&_, _||_}
 use mathlib.Core.List.{List, [], _∷_, _++_}
 use lib.ListN.{length}
 use lib.Dec.{leb, ltb, eqb}
 use Rattle.octets.specs.Choice.{pick}
+use Rattle.octets.specs.Bytes.{byte}
 use Rattle.lines.specs.declared.digits.Number.{Number}
 use Rattle.lines.specs.declared.digits.Number.the-variants.{Value, Bad}
 
@@ -37,17 +38,35 @@ unfoldable pub NumberFits : ℕ → Number → Type 0
 NumberFits bound (Value n) = n < bound
 NumberFits bound Bad = Unit
 
+-- a number of the desk's programs: decimal, "without leading zeros", and one "above 65,535 is no shape"
+abbrev pub mostNumber : ℕ
+mostNumber = 65535
+
+abbrev pub isPlain : List ℕ → Bool
+isPlain ds = (leb 1 (length ds) && leb (length ds) 5) && (eqb (length ds) 1 || not (eqb (byte ds 0) 0x30))
+
+unfoldable pub atMost : ℕ → Number → Number
+atMost most (Value n) = pick (leb n most) (Value n) Bad
+atMost most Bad = Bad
+
+unfoldable pub plainNumber : List ℕ → Number
+plainNumber ds = pick (isPlain ds) (atMost mostNumber (numberOf 10 ds)) Bad
+
 -- whether each of a run is a hex digit
 unfoldable pub allHex : List ℕ → Bool
 allHex [] = true
 allHex (d ∷ ds) = ltb (digit d) 16 && allHex ds
+
+-- hex digits in pairs
+abbrev pub isHex : List ℕ → Bool
+isHex ds = eqb (length ds % 2) 0 && allHex ds
 
 -- "0 to 16,384 hex digits, even in number"
 abbrev pub mostDigits : ℕ
 mostDigits = 16384
 
 unfoldable pub isScript : List ℕ → Bool
-isScript ds = leb (length ds) mostDigits && (eqb (length ds % 2) 0 && allHex ds)
+isScript ds = leb (length ds) mostDigits && isHex ds
 
 -- the byte of two hex digits
 abbrev pub pair : ℕ → ℕ → ℕ

@@ -12,6 +12,9 @@ pub enum Number {
     Bad,
 }
 
+// The largest number of the desk's programs.
+const MOST_NUMBER: usize = 65535;
+
 // "0 to 16,384 hex digits"
 const MOST_DIGITS: usize = 16384;
 
@@ -40,9 +43,9 @@ fn sign(n: usize) -> u8
     (0x37 + n) as u8
 }
 
-// Returns the number of at most three digits in a base; bad where one of them is no digit of the base.
+// Returns the number of at most five digits in a base; bad where one of them is no digit of the base.
 pub(crate) fn number_of(digits: &[u8], base: usize) -> Number
-    requires { ⌜ (length (now digits) ≤ 3) × (1 ≤ base) × (base ≤ 16) ⌝ }
+    requires { ⌜ (length (now digits) ≤ 5) × (1 ≤ base) × (base ≤ 16) ⌝ }
     ensures { λ r. ⌜ (r ≡ spec.numberOf base (now (digits .entry))) × spec.NumberFits (base ^ length (now (digits .entry))) r ⌝ }
 {
     let mut n: usize = 0;
@@ -54,6 +57,25 @@ pub(crate) fn number_of(digits: &[u8], base: usize) -> Number
         }
         n = n * base + d;
         i += 1;
+    }
+    Number::Value(n)
+}
+
+// Returns the number, at most 65,535, of decimal digits without a zero in front; bad where they are another.
+pub fn plain_number(digits: &[u8]) -> Number
+    ensures { λ r. ⌜ (r ≡ spec.plainNumber (now (digits .entry))) × spec.NumberFits 65536 r ⌝ }
+{
+    if (digits.len() < 1) | (5 < digits.len()) {
+        return Number::Bad;
+    }
+    if (digits.len() != 1) & (digits[0] == b'0') {
+        return Number::Bad;
+    }
+    let Number::Value(n) = number_of(digits, 10) else {
+        return Number::Bad;
+    };
+    if MOST_NUMBER < n {
+        return Number::Bad;
     }
     Number::Value(n)
 }
@@ -72,11 +94,18 @@ fn all_hex(digits: &[u8]) -> bool
     true
 }
 
+// Whether `digits` are hex digits in pairs.
+pub fn is_hex(digits: &[u8]) -> bool
+    ensures { λ r. ⌜ r ≡ spec.isHex (now (digits .entry)) ⌝ }
+{
+    (digits.len() % 2 == 0) & all_hex(digits)
+}
+
 // Whether `digits` are those of a script: at most 16,384 hex digits, even in number.
 pub fn is_script(digits: &[u8]) -> bool
     ensures { λ r. ⌜ r ≡ spec.isScript (now (digits .entry)) ⌝ }
 {
-    (digits.len() <= MOST_DIGITS) & ((digits.len() % 2 == 0) & all_hex(digits))
+    (digits.len() <= MOST_DIGITS) & is_hex(digits)
 }
 
 // Returns the byte of two hex digits.

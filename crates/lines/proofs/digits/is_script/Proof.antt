@@ -4,16 +4,16 @@ use borrow.Author.Needs.{needs}
 use Rattle.lines.proofs.digits.is_script.Statement.{statement}
 use Rattle.lines.proofs.digits.is_script.Tie as tie
 
-all-hex-requires : tie.Need-all-hex-requires
-all-hex-requires c κs = search needs
+is-hex-requires : tie.Need-is-hex-requires
+is-hex-requires c κs = search needs
 
 returns : tie.Need-returns
 unfolding isScript
-returns c = rw (c .all-hex .ensures)
+returns c = rw (c .is-hex .ensures)
 
 pub is-script-spec : {M : Type 1} → statement M
 is-script-spec =
     tie.close
     (tie.spec
-    all-hex-requires
+    is-hex-requires
     returns)
