@@ -50,7 +50,7 @@ pub struct Operation {
 }
 
 // Returns whether a kind of operation hands out bytes.
-pub(crate) fn is_read(kind: usize) -> bool
+pub fn is_read(kind: usize) -> bool
     ensures { λ b. ⌜ b ≡ spec.isRead kind ⌝ }
 {
     (kind == READ) | (kind == READ_RECORD)
