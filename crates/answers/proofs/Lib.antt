@@ -1,4 +1,5 @@
 pub mod Places
 pub mod Fits
 pub mod Going
+pub mod WithData
 pub mod Determined

@@ -78,8 +78,8 @@ fn begins_word(words: Words, b: usize) -> bool
     }
 }
 
-// Returns the word of `words` that stands at the place `at`; or the place where its reading stops.
-pub(crate) fn word_at(words: Words, answer: &[u8], at: usize) -> Worded
+// Returns the word of `words` that stands at the place `at`, byte by byte; or the place where its reading stops.
+fn spelled_at(words: Words, answer: &[u8], at: usize) -> Worded
     ensures { λ r. ⌜ r ≡ spec.wordAt words (now (answer .entry)) at ⌝ }
 {
     if answer.len() <= at {
@@ -96,4 +96,21 @@ pub(crate) fn word_at(words: Words, answer: &[u8], at: usize) -> Worded
         return Worded::Word(word);
     }
     Worded::Bad(at + 1)
+}
+
+// The same: most often it is a word that data can stand with, and each of `words` has those.
+pub(crate) fn word_at(words: Words, answer: &[u8], at: usize) -> Worded
+    ensures { λ r. ⌜ r ≡ spec.wordAt words (now (answer .entry)) at ⌝ }
+{
+    if answer.len() <= at {
+        return Worded::Bad(answer.len());
+    }
+    if answer.len() - at < 2 {
+        return spelled_at(words, answer, at);
+    }
+    let word = octets::num_at(answer, at);
+    if has_data(word) {
+        return Worded::Word(word);
+    }
+    spelled_at(words, answer, at)
 }

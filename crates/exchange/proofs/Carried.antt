@@ -2,19 +2,19 @@
 -- A carried operation has one of seven kinds, so a law of all kinds is one law for each (`by-kind`). Assumes nothing.
 use Prim.Native.Nat.{ℕ, _+_, _%_, _≤_}
 use mathlib.Core.Path.{_≡_, refl, sym, subst, _∙_}
-use mathlib.Core.Bool.{Bool, true, false, not, _&&_, _||_, false≢true}
+use mathlib.Core.Bool.{Bool, true, false, _&&_, _||_, false≢true}
 use mathlib.Core.List.{List, [], _∷_}
 use mathlib.Core.Logic.{⊎-elim}
 use native.Mathlib.Omega.{arith}
-use lib.Dec.{leb, eqb}
+use lib.Dec.{leb, ltb, eqb}
 use lib.ListN.{length}
-use borrow.Author.Tests.{leb-true, eqb-true}
+use borrow.Author.Tests.{leb-true, ltb-false, eqb-true}
 use Rattle.octets.specs.Choice.{pick}
 use Rattle.octets.specs.Bytes.{part}
 use Rattle.octets.proofs.Picks.{pick-true, pick-false, on-test, on-pick, and-left, and-right, or-either}
 use Rattle.octets.proofs.Writes.{part-length}
 use Rattle.operations.specs.declared.rows.Operation.{Operation}
-use Rattle.operations.specs.Rows.{select, isRead}
+use Rattle.operations.specs.Rows.{select, search, isRead, isBinary, isRecord}
 use Rattle.operations.specs.Carried.{isFormat, mostInByte, longestPath, modeFits, bytesFit, isCarried, isNone, firstNotCarried}
 use Rattle.operations.specs.Scripts.{bytesOf}
 
@@ -32,14 +32,6 @@ pub record IsCarried (format size : ℕ) (o : Operation) : Type 0 where
 
 -- ---- its kind
 
--- one of four tests holds, each joined with another
-one-holds : {P : Type 0} (a b c d m n k l : Bool) → (a ≡ true → P) → (b ≡ true → P) → (c ≡ true → P) → (d ≡ true → P) → ((a && m) || ((b && n) || ((c && k) || (d && l)))) ≡ true → P
-one-holds true b c d m n k l p q r s e = p refl
-one-holds false true c d m n k l p q r s e = q refl
-one-holds false false true d m n k l p q r s e = r refl
-one-holds false false false true m n k l p q r s e = s refl
-one-holds false false false false m n k l p q r s e = absurd (false≢true e)
-
 module _ (P : ℕ → Type 0) (o : Operation) where
   is : (k : ℕ) → P k → eqb (o .kind) k ≡ true → P (o .kind)
   is k p y = subst P (sym (eqb-true (o .kind) k y)) p
@@ -49,7 +41,13 @@ module _ (P : ℕ → Type 0) (o : Operation) where
 
   pub by-kind : modeFits (o .kind) (o .mode) (o .number) ≡ true → P 1 → P 2 → P 3 → P 4 → P 5 → P 6 → P 7 → P (o .kind)
   unfolding modeFits
-  by-kind fits p1 p2 p3 p4 p5 p6 p7 = one-holds _ _ _ _ _ _ _ _ (either-is 2 3 p2 p3) (either-is 4 5 p4 p5) (is 7 p7) (either-is 1 6 p1 p6) fits
+  by-kind fits p1 p2 p3 p4 p5 p6 p7 =
+      on-pick Kinds (isBinary (o .kind)) _ _ (λ y _. either-is 2 3 p2 p3 y)
+      (λ _. on-pick Kinds (isRecord (o .kind)) _ _ (λ y _. either-is 4 5 p4 p5 y)
+      (λ _. on-pick Kinds (eqb (o .kind) search) _ _ (λ y _. is 7 p7 y) (λ _ h. either-is 1 6 p1 p6 (and-left _ _ h)))) fits
+    where
+      Kinds : Bool → Type 0
+      Kinds b = b ≡ true → P (o .kind)
 
 -- ---- its bytes
 
@@ -86,17 +84,16 @@ module _ (size : ℕ) (o : Operation) where
   bytes-bring : o .from + o .count ≤ size → asBytes ≡ true → Brings size o
   bytes-bring inside e = held-brings inside (leb-true 1 _ (and-left _ _ e)) (leb-true _ mostInByte (and-right (leb 1 (o .count)) _ e))
 
-  others-bring : (leb (o .from + o .count) size && ((eqb (o .kind) select && asPath) || (not (eqb (o .kind) select) && asBytes))) ≡ true → Brings size o
-  others-bring e =
-      let inside = leb-true (o .from + o .count) size (and-left _ _ e) in
-      ⊎-elim (λ y. path-brings inside (and-right (eqb (o .kind) select) _ y)) (λ y. bytes-bring inside (and-right (not (eqb (o .kind) select)) _ y))
-      (or-either (eqb (o .kind) select && asPath) _ (and-right (leb (o .from + o .count) size) _ e))
-
   brought : bytesFit size (o .kind) (o .from) (o .count) ≡ true → Brings size o
   unfolding bytesFit
-  brought fits =
-      ⊎-elim (λ y. read-brings (and-left _ _ y) (and-right (isRead (o .kind)) _ y)) (λ y. others-bring (and-right (not (isRead (o .kind))) _ y))
-      (or-either (isRead (o .kind) && asRead) _ fits)
+  brought =
+      on-pick Bring (isRead (o .kind)) _ _ read-brings
+      (λ _. on-pick Bring (ltb size (o .from + o .count)) _ _ (λ _ e. absurd (false≢true e))
+      (λ n. let inside = ltb-false size (o .from + o .count) n in
+      on-pick Bring (eqb (o .kind) select) _ _ (λ _. path-brings inside) (λ _. bytes-bring inside)))
+    where
+      Bring : Bool → Type 0
+      Bring b = b ≡ true → Brings size o
 
   is-carried : (format : ℕ) (last : Bool) → isCarried format size last o ≡ true → IsCarried format size o
   unfolding isCarried

@@ -1,21 +1,23 @@
 -- The first operation that is not carried, one operation after the other; and what an operation that is carried promises. Assumes nothing.
-use mathlib.Core.Path.{_≡_, sym, _∙_}
-use mathlib.Core.Bool.{Bool, true, false, not, _&&_, _||_, false≢true}
+use mathlib.Core.Path.{_≡_, refl, sym, ap, _∙_}
+use mathlib.Core.Bool.{Bool, true, false, not, _&&_, _||_, and-true, and-false, false≢true}
 use mathlib.Core.List.{List, _∷_}
 use mathlib.Core.Logic.{⊎-elim}
 use Prim.Native.Nat.{ℕ, _+_, _%_, _≤_, _<_}
 use native.Mathlib.Omega.{arith}
-use lib.Dec.{leb, eqb}
-use borrow.Author.Tests.{leb-true, eqb-true}
+use lib.Dec.{leb, ltb, eqb}
+use lib.ListN.{length}
+use borrow.Author.Tests.{leb-true, ltb-false, eqb-true, ne-eqb, lt-leb}
+use Rattle.octets.specs.Choice.{pick}
 use Rattle.octets.proofs.Picks.{and-left, and-right, or-either, either, on-pick, told-true, told-false}
 use Rattle.operations.specs.declared.rows.Operation.{Operation}
 use Rattle.operations.specs.Rows.{select, increase, search, next, previous, absolute, forward, backward}
-use Rattle.operations.specs.Rows.{isRead, isBinary, isRecord, operationAt}
+use Rattle.operations.specs.Rows.{isRead, isBinary, isRecord, operationAt, operationsIn, operationsOf, isList}
 use Rattle.operations.specs.Carried.{mostInByte, mostOffset, longestPath}
 use Rattle.operations.specs.Carried.{isFormat, modeFits, bytesFit, isCarried, isNone, firstNotCarried}
 use Rattle.operations.specs.Scripts.{p1Of, p2Of}
 use Rattle.operations.specs.Sizes.{Carried}
-use Rattle.operations.proofs.Left.{left, none-left, one-left, last-left}
+use Rattle.operations.proofs.Left.{left, some, all-left, none-left, one-left, last-left}
 
 -- a list whose first operation is carried, and one whose first is not
 module _ (format size n : ℕ) (o : Operation) (os : List Operation) where
@@ -50,6 +52,31 @@ module _ (format size : ℕ) (list : List ℕ) (n i : ℕ) where
 on-or : {P : Type 0} (a b : Bool) → (a || b) ≡ true → (a ≡ true → P) → (b ≡ true → P) → P
 on-or a b h f g = ⊎-elim f g (or-either a b h)
 
+-- an operation of a known kind: one that brings bytes, one that reads, and none
+module _ (format size : ℕ) (last : Bool) (o : Operation) (k : ℕ) (known : isFormat format ≡ true) (kind : o .kind ≡ k) {m b : Bool}
+    (modes : m ≡ modeFits k (o .mode) (o .number)) (bytes : b ≡ bytesFit size k (o .from) (o .count)) where
+  pub brings-carried : isRead k ≡ false → (m && b) ≡ isCarried format size last o
+  unfolding isCarried
+  brings-carried n = rw (known, kind, ← modes, ← bytes, n, and-true)
+
+  pub reads-carried : isRead k ≡ true → (m && (b && (last || eqb format 1))) ≡ isCarried format size last o
+  unfolding isCarried
+  reads-carried y = rw (known, kind, ← modes, ← bytes, y)
+
+pub none-carried : (format size : ℕ) (last : Bool) (o : Operation)
+    → (o .kind ≡ 1 → ⊥) → (o .kind ≡ 2 → ⊥) → (o .kind ≡ 3 → ⊥) → (o .kind ≡ 4 → ⊥) → (o .kind ≡ 5 → ⊥) → (o .kind ≡ 6 → ⊥) → (o .kind ≡ 7 → ⊥)
+    → false ≡ isCarried format size last o
+unfolding isCarried modeFits pick
+none-carried format size last o n1 n2 n3 n4 n5 n6 n7 =
+    rw (ne-eqb (o .kind) 1 n1, ne-eqb (o .kind) 2 n2, ne-eqb (o .kind) 3 n3, ne-eqb (o .kind) 4 n4, ne-eqb (o .kind) 5 n5, ne-eqb (o .kind) 6 n6, ne-eqb (o .kind) 7 n7, and-false)
+
+-- no operation is carried by another format, so a list's first is at fault
+pub no-format : (format size : ℕ) (list : List ℕ) → isList (length list) ≡ true → 1 < format → 1 ≡ firstNotCarried format size 1 (operationsOf list)
+unfolding isCarried
+no-format format size list is other =
+    stops-here format size list (operationsIn (length list)) 0 (some (length list) is) refl {b = false} (rw (lt-leb format 1 other)) refl
+    ∙ ap (firstNotCarried format size 1) (all-left list _ refl)
+
 -- what a mode and a number that fit promise: the mode is small, no offset passes the number, and no byte where it is none
 record ModeFits (kind mode number : ℕ) : Type 0 where
   small : mode ≤ backward
@@ -64,14 +91,13 @@ module _ {kind mode number : ℕ} where
   in-bytes : mode ≤ backward → number ≤ mostInByte → ModeFits kind mode number
   in-bytes m n = record { small = m; offset = omega arith; other = λ _. n }
 
-  binary-fits : (isBinary kind && (eqb mode 0 && leb number mostOffset)) ≡ true → ModeFits kind mode number
-  binary-fits h =
-      let fits = and-right (isBinary kind) _ h in
-      let none = eqb-true mode 0 (and-left (eqb mode 0) _ fits) in
+  binary-fits : isBinary kind ≡ true → (eqb mode 0 && leb number mostOffset) ≡ true → ModeFits kind mode number
+  binary-fits y h =
+      let none = eqb-true mode 0 (and-left (eqb mode 0) _ h) in
       record {
         small = omega arith;
-        offset = leb-true number mostOffset (and-right (eqb mode 0) _ fits);
-        other = λ e. absurd (false≢true (sym e ∙ and-left (isBinary kind) _ h));
+        offset = leb-true number mostOffset (and-right (eqb mode 0) _ h);
+        other = λ e. absurd (false≢true (sym e ∙ y));
       }
 
   record-fits : (((eqb mode next || eqb mode previous) && eqb number 0) || (eqb mode absolute && leb number mostInByte)) ≡ true
@@ -98,47 +124,42 @@ module _ {kind mode number : ℕ} where
 
   mode-fits : modeFits kind mode number ≡ true → ModeFits kind mode number
   unfolding modeFits
-  mode-fits h =
-      on-or (isBinary kind && (eqb mode 0 && leb number mostOffset)) _ h binary-fits
-      (λ h′. on-or (isRecord kind && _) _ h′ (λ e. record-fits (and-right (isRecord kind) _ e))
-      (λ h″. on-or (eqb kind search && _) _ h″ (λ e. search-fits (and-right (eqb kind search) _ e))
-      (λ e. plain-fits (and-right (eqb kind select || eqb kind increase) _ e))))
+  mode-fits =
+      on-pick Promises (isBinary kind) _ _ binary-fits
+      (λ _. on-pick Promises (isRecord kind) _ _ (λ _. record-fits)
+      (λ _. on-pick Promises (eqb kind search) _ _ (λ _. search-fits) (λ _ h. plain-fits (and-right (eqb kind select || eqb kind increase) _ h))))
+    where
+      Promises : Bool → Type 0
+      Promises b = b ≡ true → ModeFits kind mode number
 
 -- what bytes that fit promise: a byte counts them, and where the operation brings them they lie in the data
 record BytesFit (size kind from count : ℕ) : Type 0 where
   byte : count ≤ mostInByte
   inside : isRead kind ≡ false → from + count ≤ size
 
-few-fit : (kind count : ℕ)
-    → ((eqb kind select && (leb 2 count && (leb count longestPath && eqb (count % 2) 0)))
-    || (not (eqb kind select) && (leb 1 count && leb count mostInByte))) ≡ true
-    → count ≤ mostInByte
-few-fit kind count h =
-    on-or (eqb kind select && (leb 2 count && (leb count longestPath && eqb (count % 2) 0))) _ h
-    (λ path.
-    let even = and-right (leb 2 count) _ (and-right (eqb kind select) _ path) in
-    let short = leb-true count longestPath (and-left (leb count longestPath) _ even) in
-    omega arith)
-    (λ bytes. leb-true count mostInByte (and-right (leb 1 count) _ (and-right (not (eqb kind select)) _ bytes)))
-
 module _ {size kind from count : ℕ} where
-  read-fits : (isRead kind && (eqb from 0 && leb count mostInByte)) ≡ true → BytesFit size kind from count
-  read-fits h =
+  read-fits : isRead kind ≡ true → (eqb from 0 && leb count mostInByte) ≡ true → BytesFit size kind from count
+  read-fits y h =
       record {
-        byte = leb-true count mostInByte (and-right (eqb from 0) _ (and-right (isRead kind) _ h));
-        inside = λ e. absurd (false≢true (sym e ∙ and-left (isRead kind) _ h));
+        byte = leb-true count mostInByte (and-right (eqb from 0) _ h);
+        inside = λ e. absurd (false≢true (sym e ∙ y));
       }
+
+  held-fits : from + count ≤ size → count ≤ mostInByte → BytesFit size kind from count
+  held-fits inside few = record { byte = few; inside = λ _. inside }
 
   bytes-fit : bytesFit size kind from count ≡ true → BytesFit size kind from count
   unfolding bytesFit
-  bytes-fit h =
-      on-or (isRead kind && (eqb from 0 && leb count mostInByte)) _ h read-fits
-      (λ other.
-      let fits = and-right (not (isRead kind)) _ other in
-      record {
-        byte = few-fit kind count (and-right (leb (from + count) size) _ fits);
-        inside = λ _. leb-true (from + count) size (and-left (leb (from + count) size) _ fits);
-      })
+  bytes-fit =
+      on-pick Promises (isRead kind) _ _ read-fits
+      (λ _. on-pick Promises (ltb size (from + count)) _ _ (λ _ h. absurd (false≢true h))
+      (λ n. let inside = ltb-false size (from + count) n in
+      on-pick Promises (eqb kind select) _ _
+      (λ _ h. held-fits inside (let short = leb-true count longestPath (and-left (leb count longestPath) _ (and-right (leb 2 count) _ h)) in omega arith))
+      (λ _ h. held-fits inside (leb-true count mostInByte (and-right (leb 1 count) _ h)))))
+    where
+      Promises : Bool → Type 0
+      Promises b = b ≡ true → BytesFit size kind from count
 
 -- an operation that is carried
 is-carried : (format size : ℕ) (last : Bool) (o : Operation) → isCarried format size last o ≡ true → Carried size o

@@ -2,7 +2,8 @@
 use Prim.Native.Nat.{ℕ, _+_, _%_}
 use mathlib.Core.Bool.{Bool, true, false, not, _&&_, _||_}
 use mathlib.Core.List.{List, [], _∷_}
-use lib.Dec.{leb, eqb}
+use lib.Dec.{leb, ltb, eqb}
+use Rattle.octets.specs.Choice.{pick}
 use Rattle.operations.specs.declared.rows.Operation.{Operation}
 use Rattle.operations.specs.Rows.{select, increase, search, next, previous, absolute, forward, backward, isRead, isBinary, isRecord}
 
@@ -25,20 +26,25 @@ longestPath = 16
 -- record; and nothing for SELECT and INCREASE
 unfoldable pub modeFits : ℕ → ℕ → ℕ → Bool
 modeFits kind mode number =
-    (isBinary kind && (eqb mode 0 && leb number mostOffset))
-    || ((isRecord kind && (((eqb mode next || eqb mode previous) && eqb number 0) || (eqb mode absolute && leb number mostInByte)))
-    || ((eqb kind search && ((eqb mode forward || eqb mode backward) && leb number mostInByte))
-    || ((eqb kind select || eqb kind increase) && (eqb mode 0 && eqb number 0))))
+    pick (isBinary kind)
+    (eqb mode 0 && leb number mostOffset)
+    (pick (isRecord kind)
+    (((eqb mode next || eqb mode previous) && eqb number 0) || (eqb mode absolute && leb number mostInByte))
+    (pick (eqb kind search)
+    ((eqb mode forward || eqb mode backward) && leb number mostInByte)
+    ((eqb kind select || eqb kind increase) && (eqb mode 0 && eqb number 0))))
 
 -- whether the bytes of an operation are as its kind asks, beside `size` bytes of data: a read wants up to 255 and brings none; a path has 1
 -- to 8 identifiers of two bytes; other bytes are 1 to 255
 unfoldable pub bytesFit : ℕ → ℕ → ℕ → ℕ → Bool
 bytesFit size kind from count =
-    (isRead kind && (eqb from 0 && leb count mostInByte))
-    || (not (isRead kind)
-    && (leb (from + count) size
-    && ((eqb kind select && (leb 2 count && (leb count longestPath && eqb (count % 2) 0)))
-    || (not (eqb kind select) && (leb 1 count && leb count mostInByte)))))
+    pick (isRead kind)
+    (eqb from 0 && leb count mostInByte)
+    (pick (ltb size (from + count))
+    false
+    (pick (eqb kind select)
+    (leb 2 count && (leb count longestPath && eqb (count % 2) 0))
+    (leb 1 count && leb count mostInByte)))
 
 -- whether a format carries an operation; `last` tells that none comes after it
 unfoldable pub isCarried : ℕ → ℕ → Bool → Operation → Bool

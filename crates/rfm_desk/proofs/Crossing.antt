@@ -47,9 +47,10 @@ built-crosses b fits memory g n e p =
 module _ (format : ℕ) (answer : List ℕ) where
   pub parts-cross : (p : Parts) → Fits (p .number) (p .count) (p .place) → (n : ℕ) → n ≡ packedParts p → p ≡ answerParts format answer
       → (n ≡ packedParts (answerParts format answer)) × (partsIn n ≡ answerParts format answer)
-  parts-cross p fits n e same =
-      (e ∙ ap packedParts same
-      , ap partsIn e ∙ (λ i. record { number = number-back _ _ _ fits i; count = count-back _ _ _ fits i; place = length-back _ _ _ fits i }) ∙ same)
+  parts-cross p fits n e same = (
+    e ∙ ap packedParts same,
+    ap partsIn e ∙ (λ i. record { number = number-back _ _ _ fits i; count = count-back _ _ _ fits i; place = length-back _ _ _ fits i }) ∙ same,
+  )
 
   pub too-long : mostAnswer < length answer → record { number = 2; count = 0; place = 0 } ≡ answerParts format answer
   unfolding answerParts

@@ -1,6 +1,11 @@
--- `answers::words::word_at` meets its contract: each return is the case that the definition picks. Assumes nothing.
-use Rattle.octets.proofs.Picks.{picks, choices}
-use Rattle.answers.specs.Words.{wordAt}
+-- `answers::words::word_at` meets its contract: a word that data can stand with is read where it stands, and any other byte by byte. Assumes
+-- nothing.
+use mathlib.Core.Path.{sym, ap, _∙_}
+use native.Mathlib.Omega.{arith}
+use Rattle.octets.proofs.Picks.{picks}
+use Rattle.answers.specs.declared.words.Worded.the-variants.{Word}
+use Rattle.answers.specs.Words.{hasData, wordAt}
+use Rattle.answers.proofs.WithData.{data-word}
 use borrow.Author.Needs.{needs}
 use Rattle.answers.proofs.words.word_at.Statement.{statement}
 use Rattle.answers.proofs.words.word_at.Tie as tie
@@ -9,70 +14,46 @@ returns : tie.Need-returns
 unfolding wordAt
 returns c = search picks
 
-shared-slice-read-wide : tie.Need-shared-slice-read-wide
-shared-slice-read-wide c = search needs
+sub-if2 : tie.Need-sub-if2
+sub-if2 c = search needs
 
-wide-requires : tie.Need-wide-requires
-wide-requires c κs = search needs
-
-begins-word-requires : tie.Need-begins-word-requires
-begins-word-requires c κs = search needs
+spelled-at-requires : tie.Need-spelled-at-requires
+spelled-at-requires c κs = search needs
 
 returns-2 : tie.Need-returns-2
-unfolding wordAt
-returns-2 c =
-    let at-begins = c .before in
-    rw (← (at-begins .before .wide .ensures .0), ← (at-begins .begins-word .ensures)) (search choices)
-
-add-if3 : tie.Need-add-if3
-add-if3 c = search needs
-
-returns-3 : tie.Need-returns-3
-unfolding wordAt
-returns-3 c =
-    let at-begins = c .before .before in
-    rw (← (at-begins .before .wide .ensures .0), ← (at-begins .begins-word .ensures)) (search choices)
+returns-2 c = search needs
 
 num-at-requires : tie.Need-num-at-requires
 num-at-requires c κs = search needs
 
-is-word-requires : tie.Need-is-word-requires
-is-word-requires c κs = search needs
+has-data-requires : tie.Need-has-data-requires
+has-data-requires c κs = search needs
+
+returns-3 : tie.Need-returns-3
+returns-3 c =
+    let at-data = c .before in
+    let at-num = at-data .before in
+    let at-more = at-num .before in
+    let at-known = at-more .before .before in
+    ap Word (at-num .num-at .ensures .0)
+    ∙ data-word _ _ (λ i. at-known .shared-slice-known .given i .fits) _ (ap hasData (sym (at-num .num-at .ensures .0)) ∙ sym (at-data .has-data .ensures) ∙ c .if3 .taken) (omega arith)
+
+spelled-at-requires-2 : tie.Need-spelled-at-requires-2
+spelled-at-requires-2 c κs = search needs
 
 returns-4 : tie.Need-returns-4
-unfolding wordAt
-returns-4 c =
-    let at-is-word = c .before in
-    let at-num = at-is-word .before in
-    let at-begins = at-num .before .before .before in
-    rw (← (at-begins .before .wide .ensures .0), ← (at-begins .begins-word .ensures))
-    (rw (← (at-num .num-at .ensures .0), ← (at-is-word .is-word .ensures)) (search choices))
-
-add-t5 : tie.Need-add-t5
-add-t5 c = search needs
-
-returns-5 : tie.Need-returns-5
-unfolding wordAt
-returns-5 c =
-    let at-is-word = c .before in
-    let at-num = at-is-word .before in
-    let at-begins = at-num .before .before .before in
-    rw (← (at-begins .before .wide .ensures .0), ← (at-begins .begins-word .ensures))
-    (rw (← (at-num .num-at .ensures .0), ← (at-is-word .is-word .ensures)) (search choices))
+returns-4 c = search needs
 
 pub word-at-spec : {M : Type 1} → statement M
 word-at-spec =
     tie.close
     (tie.spec
     returns
-    shared-slice-read-wide
-    wide-requires
-    begins-word-requires
+    sub-if2
+    spelled-at-requires
     returns-2
-    add-if3
-    returns-3
     num-at-requires
-    is-word-requires
-    returns-4
-    add-t5
-    returns-5)
+    has-data-requires
+    returns-3
+    spelled-at-requires-2
+    returns-4)
