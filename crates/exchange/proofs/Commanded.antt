@@ -2,7 +2,7 @@
 -- command. Each law goes kind by kind (`by-kind`), where its tests compute. Assumes nothing.
 use Prim.Native.Nat.{ℕ, _+_, _*_, _/_, _%_}
 use mathlib.Core.Path.{_≡_, refl, sym, ap, _∙_}
-use mathlib.Core.Bool.{Bool, true, false, not, _&&_, _||_, or-false}
+use mathlib.Core.Bool.{Bool, true, false, not, _&&_, _||_}
 use mathlib.Core.List.{List, _∷_}
 use native.Mathlib.Omega.{arith}
 use lib.Dec.{eqb}
@@ -71,8 +71,7 @@ module _ (o : Operation) (fits : modeFits (o .kind) (o .mode) (o .number) ≡ tr
   unfolding p2Of modeFits pick
   mode-told =
       let zero-mode : (b : Bool) → (eqb (o .mode) 0 && b) ≡ true → 0 ≡ o .mode = λ b e. sym (eqb-true (o .mode) 0 (and-left _ _ e)) in
-      let at-offset : (b : Bool) → ((eqb (o .mode) 0 && b) || false) ≡ true → 0 ≡ o .mode = λ b e. zero-mode b (sym (or-false _) ∙ e) in
-      by-kind (λ (k : ℕ). modeFits k (o .mode) (o .number) ≡ true → pick (eqb k rows.select) 0 (pick (isBinary k) 0 (p2 k)) ≡ o .mode) o fits (zero-mode _) (at-offset _) (at-offset _) (λ _. refl) (λ _. refl) (λ _. refl) (λ _. refl) fits
+      by-kind (λ (k : ℕ). modeFits k (o .mode) (o .number) ≡ true → pick (eqb k rows.select) 0 (pick (isBinary k) 0 (p2 k)) ≡ o .mode) o fits (zero-mode _) (zero-mode _) (zero-mode _) (λ _. refl) (λ _. refl) (λ _. refl) (λ _. refl) fits
 
   number-told : pick (eqb (o .kind) rows.select) 0 (pick (isBinary (o .kind)) (p1Of o * 256 + p2Of o) (p1Of o)) ≡ o .number
   unfolding p1Of p2Of modeFits pick
