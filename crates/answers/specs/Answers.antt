@@ -1,4 +1,4 @@
--- "a reader for both answer forms": it reads an answer once, from front to back, and where it cannot go on, there is the "first bad byte".
+-- "and a reader for both answer forms": it reads an answer once, from front to back, and where it cannot go on, there is the "first bad byte".
 use Prim.Native.Nat.{ℕ, zero, suc, _+_, _-_}
 use mathlib.Core.Bool.{Bool, true, false, not, _&&_, _||_}
 use mathlib.Core.List.{List}

@@ -38,7 +38,7 @@ unfoldable pub NumberFits : ℕ → Number → Type 0
 NumberFits bound (Value n) = n < bound
 NumberFits bound Bad = Unit
 
--- a number of the desk's programs: decimal, "without leading zeros", and one "above 65,535 is no shape"
+-- a number of the desk's programs: decimal, with no zero in front, and at most 65,535
 abbrev pub mostNumber : ℕ
 mostNumber = 65535
 

@@ -1,5 +1,6 @@
--- "a list of file operations (select by path, update, read, increase, search)", as bytes: 8 for each operation. Byte 0 has its kind, 1 its
--- mode, 2-3 an offset or a record number, 4-5 where its bytes begin in the data beside the list, 6-7 how many there are.
+-- "Add a builder that takes a list of file operations (select by path, update, read, increase, search)": the list as bytes, 8 for each
+-- operation. Byte 0 has its kind, 1 its mode, 2-3 an offset or a record number, 4-5 where its bytes begin in the data beside the list, 6-7
+-- how many there are.
 use Prim.Native.Nat.{ℕ, zero, suc, _+_, _*_, _/_, _%_, _<_}
 use mathlib.Core.Bool.{Bool, _&&_, _||_}
 use mathlib.Core.List.{List, [], _∷_}

@@ -1,4 +1,4 @@
--- The script of a list of operations: "a compact or expanded script".
+-- The script of a list of operations: "and writes a compact or expanded script".
 use Prim.Native.Nat.{ℕ, _/_, _%_}
 use mathlib.Core.Bool.{Bool, _||_}
 use mathlib.Core.List.{List, [], _∷_, _++_}

@@ -9,12 +9,12 @@ use Rattle.rfm_desk.proofs.rfm_read_answer.Reads as read-answer
 use Rattle.rfm_desk.proofs.rfm_result.Reads as result
 
 module _ (κs : Lfts 3) where
-  pub build-determined : Determined (build.Learnt κs) (λ args a e. crosses a (now (e .1 .1 .1 .0)))
-  build-determined = by-equation (λ args a e h. h)
+  pub rfm-build-determined : Determined (build.Learnt κs) (λ args a e. crosses a (now (e .1 .1 .1 .0)))
+  rfm-build-determined = by-equation (λ args a e h. h)
 
 module _ (κs : Lfts 1) where
-  pub read-answer-determined : Determined (read-answer.Learnt κs) (λ args a e. a)
-  read-answer-determined = by-equation (λ args a e h. h .0)
+  pub rfm-read-answer-determined : Determined (read-answer.Learnt κs) (λ args a e. a)
+  rfm-read-answer-determined = by-equation (λ args a e h. h .0)
 
-  pub result-determined : Determined (result.Learnt κs) (λ args a e. a)
-  result-determined = by-equation (λ args a e h. h .0)
+  pub rfm-result-determined : Determined (result.Learnt κs) (λ args a e. a)
+  rfm-result-determined = by-equation (λ args a e h. h .0)

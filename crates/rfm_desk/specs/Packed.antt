@@ -39,7 +39,7 @@ across b =
 
 -- ---- an answer that is read
 
--- "more than 16,777,215 bytes are lent (no engine answers so much, and the count would find no room)"
+-- the longest answer that is read: no engine answers more, and a larger count would find no room
 abbrev pub mostAnswer : ℕ
 mostAnswer = 16777215
 
