@@ -1,0 +1,6 @@
+pub mod Fields
+pub mod Asking
+pub mod Lists
+pub mod Promised
+pub mod Builds
+pub mod Reads
