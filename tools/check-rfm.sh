@@ -1,8 +1,9 @@
 #!/usr/bin/env bash
-# Checks the command rfm: what it prints, where, and with which status. The answer that it must print is the paper's own.
+# Checks the command rfm: what it prints, where, and with which status. The answers that it must print are the paper's
+# own, and for the desk the ones that follow from its rules by hand.
 set -eu
 . "$(dirname "${BASH_SOURCE[0]}")/machine.sh"
-fresh target/bin/worked check worked
+for program in worked build read; do fresh "target/bin/$program" check "$program"; done
 room=$(mktemp -d)
 trap 'rm -rf "$room"' EXIT
 wrong=0
@@ -36,6 +37,24 @@ try 'a zero byte' 'application=0\ndomain=0\00000\n' 0 "$bad" 'rfm: line 2 *'
 try 'a missing line' 'application=0\ndomain=00\nformat=0\n' 0 "$bad" 'rfm: line 4 is missing*'
 try 'nothing' '' 0 "$bad" 'rfm: line 1 is missing*'
 try 'a line too many' "$card\n\n" 0 "$bad" 'rfm: line 5 *'
+
+# The desk: README's three commands, and what is said where nothing is built or read.
+script=00A4080C047F106F4600D6000002014100B0000000
+data=0141FFFFFFFFFFFFFFFFFFFFFFFFFFFFFF
+try 'a list is built' 'format=0\nselect=7F106F46\nupdate=0,0141\nread=0,0\n' 0 \
+    refusal=0$'\n'operations=3$'\n'script=$script$'\n' '' build
+try 'the script is run' "$card$script\n" 0 \
+    refusal=0$'\n'executed=3$'\n'response=039000$data$'\n'used=18$'\n'scripts=1$'\n' ''
+try 'the answer is read' "format=0\nanswer=039000$data\n" 0 count=3$'\n'status=9000$'\n'data=$data$'\n' '' read
+try 'an operation that is not carried' 'format=0\nread=0,0\nread=0,0\n' 0 \
+    refusal=2$'\n'operations=1$'\n'script=$'\n' 'rfm: operation 1 *last*' build
+try 'no operation' 'format=0\n' 0 refusal=1$'\n'operations=0$'\n'script=$'\n' 'rfm: *1 to 40*' build
+try 'an odd path' 'format=0\nselect=7F1\n' 0 line=2$'\n' 'rfm: line 2 *select=PATH*' build
+try 'no format' 'select=7F10\n' 0 line=1$'\n' 'rfm: line 1 *format=*' build
+try 'a damaged answer' 'format=1\nanswer=AB0780010123039000\n' 0 place=6$'\n' 'rfm: *place 6,*' read
+try 'a Bad format TLV' 'format=1\nanswer=AB06800101900101\n' 0 count=1$'\n'code=01$'\n' '' read
+try 'a missing answer' 'format=1\n' 0 line=2$'\n' 'rfm: line 2 *answer=*' read
+try 'a third line' 'format=0\nanswer=019000\n\n' 0 line=3$'\n' 'rfm: line 3 *' read
 try 'another word' '' 2 '' 'usage: *' other
 if printf '%b' "${card}00A4000C027F10\n" | "$root/rfm" > /dev/full 2> /dev/null; then
     echo 'rfm: status 0, and nothing could be written'
