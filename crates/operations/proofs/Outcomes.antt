@@ -12,7 +12,7 @@ use Rattle.operations.specs.declared.Built.{Built}
 use Rattle.operations.specs.Rows.{mostOperations, isList, operationsIn, operationsOf}
 use Rattle.operations.specs.Carried.{firstNotCarried}
 use Rattle.operations.specs.Scripts.{scriptOf}
-use Rattle.operations.specs.Sizes.{scriptSize}
+use Rattle.operations.specs.Sizes.{allSize, scriptSize}
 use Rattle.operations.specs.Builds.{Building, BuiltFits, building, refused, placed, builtList, build}
 use Rattle.operations.proofs.Left.{few}
 use Rattle.operations.proofs.Scripted.{script-length}
@@ -40,7 +40,7 @@ module _ (format : ℕ) (list d m : List ℕ) where
       unfolding build builtList
       is-placed = yes (isList (length list)) _ whole (eq-yes (firstNotCarried format (length d) 1 (operationsOf list)) 0 _ carried refl)
 
-      module _ {size : ℕ} (sized : size ≡ scriptSize format (operationsOf list)) where
+      module _ {size : ℕ} (sized : size ≡ scriptSize format (allSize format (operationsOf list))) where
         is-long : length (scriptOf format d (operationsOf list)) ≡ size
         is-long = script-length format d (operationsOf list) carried ∙ sym sized
 

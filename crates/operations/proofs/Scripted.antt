@@ -138,7 +138,7 @@ all-length format n d (o ∷ os) h =
     length-append (writtenAs format d o) (allWritten format d os) ∙ rw (first, others)
 
 pub script-length : (format : ℕ) (d : List ℕ) (os : List Operation) → firstNotCarried format (length d) 1 os ≡ 0
-    → length (scriptOf format d os) ≡ scriptSize format os
+    → length (scriptOf format d os) ≡ scriptSize format (allSize format os)
 unfolding scriptOf scriptSize templated tlvSize
 script-length format d os h =
     let l = all-length format 0 d os h in
@@ -191,11 +191,11 @@ module _ (format : ℕ) (d : List ℕ) (os : List Operation) where
   template-script e h =
       eq-no format 0 _ e (ap (λ (k : ℕ). 0xAA ∷ (lengthBytes k ++ allWritten format d os)) (sym (all-length format 0 d os h)))
 
-module _ (format : ℕ) (os : List Operation) where
-  pub compact-size : format ≡ 0 → allSize format os ≡ scriptSize format os
+module _ (format n : ℕ) where
+  pub compact-size : format ≡ 0 → n ≡ scriptSize format n
   unfolding scriptSize
   compact-size e = eq-yes format 0 _ e refl
 
-  pub template-size : (format ≡ 0 → ⊥) → 1 + length (lengthBytes (allSize format os)) + allSize format os ≡ scriptSize format os
+  pub template-size : (format ≡ 0 → ⊥) → 1 + length (lengthBytes n) + n ≡ scriptSize format n
   unfolding scriptSize tlvSize
   template-size e = eq-no format 0 _ e refl

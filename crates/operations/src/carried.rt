@@ -1,4 +1,4 @@
-// Whether a format carries an operation.
+// Whether a format carries an operation, and what a list comes to.
 use crate::rows::ABSOLUTE;
 use crate::rows::BACKWARD;
 use crate::rows::FORWARD;
@@ -14,11 +14,13 @@ use crate::rows::UPDATE;
 use crate::rows::UPDATE_RECORD;
 use crate::rows::operation_at;
 use crate::rows::operations_in;
+use crate::sizes::written_size;
 ghost use mathlib.Core.Path.{_≡_};
 ghost use mathlib.Core.Bool.{true};
-ghost use Prim.Native.Nat.{_≤_, _<_};
+ghost use Prim.Native.Nat.{_<_};
 ghost use lib.ListN.{length};
-ghost use Rattle.operations.specs.Rows.{select, update, updateRecord, isList, operationsOf, RowFits, mostOperations};
+ghost use Rattle.operations.specs.Rows.{select, update, updateRecord, isList, operationsOf, RowFits};
+ghost use Rattle.operations.specs.Sizes.{Measures};
 ghost use Rattle.operations.specs.Carried as spec;
 
 // The largest number that a byte of a command holds.
@@ -65,18 +67,18 @@ fn is_carried(format: u8, size: usize, last: bool, o: Operation) -> bool
     requires { ⌜ (spec.isFormat format ≡ true) × RowFits o ⌝ }
     ensures { λ b. ⌜ b ≡ spec.isCarried format size last o ⌝ }
 {
+    let outgoing = last | (format == 1);
     let kind = o.kind;
     match kind {
         SELECT => ((o.mode == 0) & (o.number == 0)) & path_fits(size, o.from, o.count),
         UPDATE => ((o.mode == 0) & (o.number <= MOST_OFFSET)) & data_fits(size, o.from, o.count),
         READ => {
             ((o.mode == 0) & (o.number <= MOST_OFFSET))
-                & (((o.from == 0) & (o.count <= MOST_IN_BYTE)) & (last | (format == 1)))
+                & (((o.from == 0) & (o.count <= MOST_IN_BYTE)) & outgoing)
         }
         UPDATE_RECORD => record_fits(o.mode, o.number) & data_fits(size, o.from, o.count),
         READ_RECORD => {
-            record_fits(o.mode, o.number)
-                & (((o.from == 0) & (o.count <= MOST_IN_BYTE)) & (last | (format == 1)))
+            record_fits(o.mode, o.number) & (((o.from == 0) & (o.count <= MOST_IN_BYTE)) & outgoing)
         }
         INCREASE => ((o.mode == 0) & (o.number == 0)) & data_fits(size, o.from, o.count),
         SEARCH => {
@@ -87,22 +89,37 @@ fn is_carried(format: u8, size: usize, last: bool, o: Operation) -> bool
     }
 }
 
-// Returns the number, from 1, of the first operation of a list that a format does not carry beside `size` bytes of data; 0 where it carries
-// all.
-pub fn first_not_carried(format: u8, list: &[u8], size: usize) -> usize
+// What a list of operations comes to: the number, from 1, of the first that the format does not carry, 0 where it carries all; and then how
+// many bytes all of them take.
+pub struct Measured {
+    pub bad: usize,
+    pub size: usize,
+}
+
+// Returns what a list comes to in a format, beside `size` bytes of data.
+pub fn measure(format: u8, list: &[u8], size: usize) -> Measured
     requires { ⌜ isList (length (now list)) ≡ true ⌝ }
-    ensures { λ n. ⌜ (n ≡ spec.firstNotCarried format size 1 (operationsOf (now (list .entry)))) × (n ≤ mostOperations) ⌝ }
+    ensures { λ m. ⌜ Measures format size (operationsOf (now (list .entry))) m ⌝ }
 {
     if 1 < format {
-        return 1;
+        return Measured { bad: 1, size: 0 };
     }
     let n = operations_in(list.len());
+    let mut written: usize = 0;
     let mut i: usize = 0;
     while i < n {
-        if !is_carried(format, size, i + 1 == n, operation_at(list, i)) {
-            return i + 1;
+        let o = operation_at(list, i);
+        if !is_carried(format, size, i + 1 == n, o) {
+            return Measured {
+                bad: i + 1,
+                size: 0,
+            };
         }
+        written += written_size(format, o);
         i += 1;
     }
-    0
+    Measured {
+        bad: 0,
+        size: written,
+    }
 }

@@ -4,7 +4,7 @@ pub mod rows;
 mod sizes;
 mod writing;
 
-use carried::first_not_carried;
+use carried::measure;
 use engine::LONGEST_SCRIPT;
 use rows::is_list;
 use rows::operations_in;
@@ -40,18 +40,18 @@ pub fn build(format: u8, operations: &[u8], data: &[u8], script: &mut [u8]) -> B
     if !is_list(operations.len()) {
         return refused(1, 0);
     }
-    let bad = first_not_carried(format, operations, data.len());
-    if bad != 0 {
-        return refused(2, bad);
+    let all = measure(format, operations, data.len());
+    if all.bad != 0 {
+        return refused(2, all.bad);
     }
-    let size = script_size(format, operations);
+    let size = script_size(format, all.size);
     if LONGEST_SCRIPT < size {
         return refused(3, 0);
     }
     if script.len() < size {
         return refused(4, 0);
     }
-    put_script(format, operations, data, script);
+    put_script(format, all.size, operations, data, script);
     Built {
         refusal: 0,
         operations: operations_in(operations.len()),

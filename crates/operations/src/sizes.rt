@@ -3,15 +3,10 @@ use crate::rows::INCREASE;
 use crate::rows::Operation;
 use crate::rows::SEARCH;
 use crate::rows::is_read;
-use crate::rows::operation_at;
-use crate::rows::operations_in;
 use tlv::lengths::length_size;
 ghost use mathlib.Core.Path.{_≡_};
-ghost use mathlib.Core.Bool.{true};
-ghost use Prim.Native.Nat.{_+_, _*_, _≤_, _<_};
-ghost use lib.ListN.{length};
+ghost use Prim.Native.Nat.{_+_, _<_};
 ghost use Rattle.octets.specs.Bytes.{InWord};
-ghost use Rattle.operations.specs.Rows.{isList, operationsOf, mostOperations};
 ghost use Rattle.operations.specs.Scripts.{hasLe};
 ghost use Rattle.operations.specs.Sizes as spec;
 
@@ -56,7 +51,7 @@ fn tlv_size(n: usize) -> usize
 }
 
 // Returns how many bytes an operation takes in a script of a format.
-fn written_size(format: u8, o: Operation) -> usize
+pub fn written_size(format: u8, o: Operation) -> usize
     requires { ⌜ o .count < 65536 ⌝ }
     ensures { λ n. ⌜ n ≡ spec.writtenSize format o ⌝ }
 {
@@ -66,27 +61,11 @@ fn written_size(format: u8, o: Operation) -> usize
     tlv_size(capdu_size(o))
 }
 
-// Returns how many bytes all operations of a list take.
-pub fn all_size(format: u8, list: &[u8]) -> usize
-    requires { ⌜ isList (length (now list)) ≡ true ⌝ }
-    ensures { λ n. ⌜ (n ≡ spec.allSize format (operationsOf (now (list .entry)))) × (n ≤ mostOperations * spec.mostWritten) ⌝ }
+// Returns how many bytes the script has whose operations take `n`.
+pub fn script_size(format: u8, n: usize) -> usize
+    requires { ⌜ InWord (n + 4) ⌝ }
+    ensures { λ r. ⌜ r ≡ spec.scriptSize format n ⌝ }
 {
-    let n = operations_in(list.len());
-    let mut size: usize = 0;
-    let mut i: usize = 0;
-    while i < n {
-        size += written_size(format, operation_at(list, i));
-        i += 1;
-    }
-    size
-}
-
-// Returns how many bytes the script of a list has.
-pub fn script_size(format: u8, list: &[u8]) -> usize
-    requires { ⌜ isList (length (now list)) ≡ true ⌝ }
-    ensures { λ n. ⌜ n ≡ spec.scriptSize format (operationsOf (now (list .entry))) ⌝ }
-{
-    let n = all_size(format, list);
     if format == 0 {
         return n;
     }

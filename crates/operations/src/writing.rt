@@ -11,7 +11,6 @@ use crate::rows::is_read;
 use crate::rows::operation_at;
 use crate::rows::operations_in;
 use crate::sizes::HEADER_SIZE;
-use crate::sizes::all_size;
 use crate::sizes::capdu_size;
 use crate::sizes::has_le;
 use command::instruction;
@@ -124,6 +123,21 @@ fn put_operation(format: u8, o: Operation, data: &[u8], out: &mut [u8], at: usiz
     put_capdu(o, data, out, at)
 }
 
+// Returns the operation itself, with its count taken from one byte: knowing that, the compiler makes shorter code.
+fn counted(o: Operation) -> Operation
+    requires { ⌜ o .count < 256 ⌝ }
+    ensures { λ r. ⌜ r ≡ o ⌝ }
+{
+    let count = octets::wide(o.count as u8);
+    Operation {
+        kind: o.kind,
+        mode: o.mode,
+        number: o.number,
+        from: o.from,
+        count,
+    }
+}
+
 // Writes all operations of a list, one behind the other, from the place `at` on.
 fn put_all(format: u8, list: &[u8], data: &[u8], out: &mut [u8], at: usize)
     requires { ⌜ (isList (length (now list)) ≡ true) × (firstNotCarried format (length (now «data»)) 1 (operationsOf (now list)) ≡ 0) × (at + allSize format (operationsOf (now list)) ≤ length (now out)) ⌝ }
@@ -133,20 +147,20 @@ fn put_all(format: u8, list: &[u8], data: &[u8], out: &mut [u8], at: usize)
     let mut place = at;
     let mut i: usize = 0;
     while i < n {
-        place = put_operation(format, operation_at(list, i), data, out, place);
+        place = put_operation(format, counted(operation_at(list, i)), data, out, place);
         i += 1;
     }
 }
 
-// Writes the script of a list of operations to the front of `out`.
-pub fn put_script(format: u8, list: &[u8], data: &[u8], out: &mut [u8])
-    requires { ⌜ Writable format (now list) (now «data») (now out) ⌝ }
+// Writes the script of a list of operations, which take `size` bytes, to the front of `out`.
+pub fn put_script(format: u8, size: usize, list: &[u8], data: &[u8], out: &mut [u8])
+    requires { ⌜ Writable format size (now list) (now «data») (now out) ⌝ }
     ensures { λ _. ⌜ now (out .exit) ≡ overwrite (now (out .entry)) 0 (spec.scriptOf format (now («data» .entry)) (operationsOf (now (list .entry)))) ⌝ }
 {
     if format == 0 {
         return put_all(format, list, data, out, 0);
     }
     octets::fill(out, 0, 1, 0xAA);
-    let from = put_length(out, 1, all_size(format, list));
+    let from = put_length(out, 1, size);
     put_all(format, list, data, out, from);
 }

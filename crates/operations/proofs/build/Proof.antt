@@ -6,6 +6,7 @@ use lib.ListN.{length}
 use Rattle.octets.proofs.Picks.{told-true, told-false}
 use Rattle.operations.specs.Rows.{isList, operationsOf}
 use Rattle.operations.specs.Carried.{firstNotCarried}
+use Rattle.operations.specs.Sizes.{allSize, scriptSize}
 use Rattle.operations.proofs.Outcomes.{refusal-told, no-list, not-carried, too-long, no-room, is-built}
 use borrow.Author.Needs.{needs}
 use Rattle.operations.proofs.build.Statement.{statement}
@@ -27,34 +28,43 @@ returns c =
 abbrev from-list : tie.Else1 → tie.Start
 from-list c = c .before .before .before .before .before
 
-abbrev from-carried : tie.Else2 → tie.Start
-from-carried c = from-list (c .before .before)
+abbrev from-carried : tie.Else2 → tie.After-measure
+from-carried c = c .before .before
 
--- there is a list, and it is carried
+-- there is a list, it is carried, and its size is known
 whole : (k : tie.Else1) → isList (length (from-list k .args .operations .now)) ≡ true
 whole k = told-true (k .before .is-list .ensures) (k .if1 .left)
 
 carried : (k : tie.Else2)
-    → let s = from-carried k in
+    → let s = from-list (from-carried k .before) in
     firstNotCarried (s .args .format) (length (s .args .«data» .now)) 1 (operationsOf (s .args .operations .now)) ≡ 0
-carried k = sym (k .before .first-not-carried .ensures .0) ∙ k .if2 .left
+carried k = sym (from-carried k .measure .ensures .bad) ∙ k .if2 .left
 
-first-not-carried-requires : tie.Need-first-not-carried-requires
-first-not-carried-requires c κs = whole c
+sized : (k : tie.Else2)
+    → let s = from-list (from-carried k .before) in
+    from-carried k .measure .result .size ≡ allSize (s .args .format) (operationsOf (s .args .operations .now))
+sized k = from-carried k .measure .ensures .sized (k .if2 .left)
+
+script-sized : (k : tie.After-script-size)
+    → let s = from-list (from-carried (k .before) .before) in
+    k .script-size .result ≡ scriptSize (s .args .format) (allSize (s .args .format) (operationsOf (s .args .operations .now)))
+script-sized k = rw (sized (k .before)) at (k .script-size .ensures)
+
+measure-requires : tie.Need-measure-requires
+measure-requires c κs = whole c
 
 refused-requires-2 : tie.Need-refused-requires-2
 refused-requires-2 c κs = search needs
 
 returns-2 : tie.Need-returns-2
 returns-2 c =
-    let at-first = c .before .before in
-    let at-else1 = at-first .before in
-    let bad = at-first .first-not-carried .ensures in
-    refusal-told _ 2 (at-first .first-not-carried .result) (c .refused2 .ensures) (omega arith) (bad .1)
-    (not-carried _ _ _ _ (whole at-else1) (bad .0) (c .before .if2 .taken))
+    let at-measure = c .before .before .before in
+    let told = at-measure .measure .ensures in
+    refusal-told _ 2 (at-measure .measure .result .bad) (c .refused2 .ensures) (omega arith) (told .few)
+    (not-carried _ _ _ _ (whole (at-measure .before)) (told .bad) (c .before .if2 .taken))
 
 script-size-requires : tie.Need-script-size-requires
-script-size-requires c κs = whole (c .before .before)
+script-size-requires c κs = omega (arith, from-carried c .measure .ensures .small)
 
 refused-requires-3 : tie.Need-refused-requires-3
 refused-requires-3 c κs = search needs
@@ -64,7 +74,7 @@ returns-3 c =
     let at-size = c .before .before in
     let at-else2 = at-size .before in
     refusal-told _ 3 0 (c .refused3 .ensures) (omega arith) (omega arith)
-    (too-long _ _ _ _ (whole (at-else2 .before .before)) (carried at-else2) (at-size .script-size .ensures) (c .before .if3 .taken))
+    (too-long _ _ _ _ (whole (from-carried at-else2 .before)) (carried at-else2) (script-sized at-size) (c .before .if3 .taken))
 
 refused-requires-4 : tie.Need-refused-requires-4
 refused-requires-4 c κs = search needs
@@ -75,7 +85,7 @@ returns-4 c =
     let at-size = at-else3 .before in
     let at-else2 = at-size .before in
     refusal-told _ 4 0 (c .refused4 .ensures) (omega arith) (omega arith)
-    (no-room _ _ _ _ (whole (at-else2 .before .before)) (carried at-else2) (at-size .script-size .ensures)
+    (no-room _ _ _ _ (whole (from-carried at-else2 .before)) (carried at-else2) (script-sized at-size)
     (at-else3 .if3 .left) (c .before .if4 .taken))
 
 put-script-requires : tie.Need-put-script-requires
@@ -84,8 +94,9 @@ put-script-requires c κs =
     let at-else2 = at-size .before in
     let e = at-size .script-size .ensures in
     record {
-      list = whole (at-else2 .before .before);
+      list = whole (from-carried at-else2 .before);
       carried = carried at-else2;
+      sized = sized at-else2;
       short = omega arith;
       room = omega arith;
     }
@@ -103,7 +114,7 @@ returns-5 c =
     let at-else3 = at-else4 .before in
     let at-size = at-else3 .before in
     let at-else2 = at-size .before in
-    is-built _ _ _ _ (whole (at-else2 .before .before)) (carried at-else2) (at-size .script-size .ensures)
+    is-built _ _ _ _ (whole (from-carried at-else2 .before)) (carried at-else2) (script-sized at-size)
     (at-else3 .if3 .left) (at-else4 .if4 .left) (at-put .put-script .ensures) (c .operations-in .ensures)
 
 pub build-spec : {M : Type 1} → statement M
@@ -113,7 +124,7 @@ build-spec =
     is-list-requires
     refused-requires
     returns
-    first-not-carried-requires
+    measure-requires
     refused-requires-2
     returns-2
     script-size-requires

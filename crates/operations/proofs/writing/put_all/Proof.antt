@@ -1,5 +1,6 @@
 -- `operations::writing::put_all` meets its contract. The loop's invariant: with the operations that are left written at the place, all are
 -- written. Assumes nothing.
+use mathlib.Core.Path.{_∙_}
 use Prim.Native.Nat.{_-_}
 use native.Mathlib.Omega.{arith}
 use borrow.Author.Needs.{needs}
@@ -24,11 +25,17 @@ loop-holds c =
 operation-at-requires : tie.Need-operation-at-requires Inv-loop μ-loop
 operation-at-requires c κs = omega arith
 
+counted-requires : tie.Need-counted-requires Inv-loop μ-loop
+counted-requires c κs =
+    let going = c .before .before .loop .inv in
+    here-carried going (omega arith) (c .operation-at .ensures .0) .count
+
 put-operation-requires : tie.Need-put-operation-requires Inv-loop μ-loop
 put-operation-requires c κs =
-    let at-operation = c .before in
+    let at-counted = c .before in
+    let at-operation = at-counted .before in
     let going = at-operation .before .before .loop .inv in
-    let is = at-operation .operation-at .ensures .0 in
+    let is = at-counted .counted .ensures ∙ at-operation .operation-at .ensures .0 in
     (here-carried going (omega arith) is, here-fits going (omega arith) is)
 
 add-i : tie.Need-add-i Inv-loop μ-loop
@@ -40,10 +47,12 @@ loop-less c = omega arith
 loop-again : tie.Need-loop-again Inv-loop μ-loop
 loop-again c =
     let at-put = c .before .before in
-    let at-operation = at-put .before .before in
+    let at-counted = at-put .before .before in
+    let at-operation = at-counted .before in
     let at-loop = at-operation .before .before in
+    let is = at-counted .counted .ensures ∙ at-operation .operation-at .ensures .0 in
     let put = at-put .put-operation .ensures in
-    goes-on (at-loop .loop .inv) (omega arith) (at-operation .operation-at .ensures .0) (put .0) (put .1)
+    goes-on (at-loop .loop .inv) (omega arith) is (put .0) (put .1)
 
 same-length : tie.Need-same-length Inv-loop μ-loop
 same-length c = c .before .loop .inv .same
@@ -60,6 +69,7 @@ put-all-spec =
     operations-in-requires
     loop-holds
     operation-at-requires
+    counted-requires
     put-operation-requires
     add-i
     loop-less
