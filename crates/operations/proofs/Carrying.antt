@@ -59,9 +59,9 @@ module _ (format size : ℕ) (last : Bool) (o : Operation) (k : ℕ) (known : is
   unfolding isCarried
   brings-carried n = rw (known, kind, ← modes, ← bytes, n, and-true)
 
-  pub reads-carried : isRead k ≡ true → (m && (b && (last || eqb format 1))) ≡ isCarried format size last o
+  pub reads-carried : isRead k ≡ true → {w : Bool} → w ≡ (b && (last || eqb format 1)) → (m && w) ≡ isCarried format size last o
   unfolding isCarried
-  reads-carried y = rw (known, kind, ← modes, ← bytes, y)
+  reads-carried y e = rw (e, known, kind, ← modes, ← bytes, y)
 
 pub none-carried : (format size : ℕ) (last : Bool) (o : Operation)
     → (o .kind ≡ 1 → ⊥) → (o .kind ≡ 2 → ⊥) → (o .kind ≡ 3 → ⊥) → (o .kind ≡ 4 → ⊥) → (o .kind ≡ 5 → ⊥) → (o .kind ≡ 6 → ⊥) → (o .kind ≡ 7 → ⊥)

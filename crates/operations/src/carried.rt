@@ -16,10 +16,11 @@ use crate::rows::operation_at;
 use crate::rows::operations_in;
 use crate::sizes::written_size;
 ghost use mathlib.Core.Path.{_≡_};
-ghost use mathlib.Core.Bool.{true};
+ghost use mathlib.Core.Bool.{true, _&&_, _||_};
 ghost use Prim.Native.Nat.{_<_};
+ghost use lib.Dec.{eqb};
 ghost use lib.ListN.{length};
-ghost use Rattle.operations.specs.Rows.{select, update, updateRecord, isList, operationsOf, RowFits};
+ghost use Rattle.operations.specs.Rows.{select, update, read, updateRecord, isList, operationsOf, RowFits};
 ghost use Rattle.operations.specs.Sizes.{Measures};
 ghost use Rattle.operations.specs.Carried as spec;
 
@@ -62,23 +63,28 @@ fn data_fits(size: usize, from: usize, count: usize) -> bool
     (1 <= count) & (count <= MOST_IN_BYTE)
 }
 
+// Returns whether a read can stand in its place and wants what one can: up to 255 bytes; in compact it is the last.
+fn wanted_fits(format: u8, last: bool, from: usize, count: usize) -> bool
+    ensures { λ b. ⌜ b ≡ (spec.bytesFit 0 read from count && (last || eqb format 1)) ⌝ }
+{
+    ((from == 0) & (count <= MOST_IN_BYTE)) & (last | (format == 1))
+}
+
 // Returns whether a format carries an operation beside `size` bytes of data; `last` tells that none comes after it.
 fn is_carried(format: u8, size: usize, last: bool, o: Operation) -> bool
     requires { ⌜ (spec.isFormat format ≡ true) × RowFits o ⌝ }
     ensures { λ b. ⌜ b ≡ spec.isCarried format size last o ⌝ }
 {
-    let outgoing = last | (format == 1);
     let kind = o.kind;
     match kind {
         SELECT => ((o.mode == 0) & (o.number == 0)) & path_fits(size, o.from, o.count),
         UPDATE => ((o.mode == 0) & (o.number <= MOST_OFFSET)) & data_fits(size, o.from, o.count),
         READ => {
-            ((o.mode == 0) & (o.number <= MOST_OFFSET))
-                & (((o.from == 0) & (o.count <= MOST_IN_BYTE)) & outgoing)
+            ((o.mode == 0) & (o.number <= MOST_OFFSET)) & wanted_fits(format, last, o.from, o.count)
         }
         UPDATE_RECORD => record_fits(o.mode, o.number) & data_fits(size, o.from, o.count),
         READ_RECORD => {
-            record_fits(o.mode, o.number) & (((o.from == 0) & (o.count <= MOST_IN_BYTE)) & outgoing)
+            record_fits(o.mode, o.number) & wanted_fits(format, last, o.from, o.count)
         }
         INCREASE => ((o.mode == 0) & (o.number == 0)) & data_fits(size, o.from, o.count),
         SEARCH => {

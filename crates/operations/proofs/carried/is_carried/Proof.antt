@@ -13,6 +13,9 @@ path-fits-requires c κs = search needs
 data-fits-requires : tie.Need-data-fits-requires
 data-fits-requires c κs = search needs
 
+wanted-fits-requires : tie.Need-wanted-fits-requires
+wanted-fits-requires c κs = search needs
+
 record-fits-requires : tie.Need-record-fits-requires
 record-fits-requires c κs = search needs
 
@@ -21,6 +24,9 @@ data-fits-requires-2 c κs = search needs
 
 record-fits-requires-2 : tie.Need-record-fits-requires-2
 record-fits-requires-2 c κs = search needs
+
+wanted-fits-requires-2 : tie.Need-wanted-fits-requires-2
+wanted-fits-requires-2 c κs = search needs
 
 data-fits-requires-3 : tie.Need-data-fits-requires-3
 data-fits-requires-3 c κs = search needs
@@ -45,9 +51,9 @@ returns-2 c =
 returns-3 : tie.Need-returns-3
 unfolding modeFits bytesFit pick
 returns-3 c =
-    let at-kind = c .before .before .before .before in
+    let at-kind = c .before .before .before in
     let asks = at-kind .before .pre in
-    reads-carried _ _ _ _ 3 (asks .0) (at-kind .match .keys3) refl refl refl
+    reads-carried _ _ _ _ 3 (asks .0) (at-kind .match .keys3) refl refl refl (c .wanted-fits .ensures)
 
 returns-4 : tie.Need-returns-4
 unfolding modeFits bytesFit pick
@@ -59,9 +65,10 @@ returns-4 c =
 returns-5 : tie.Need-returns-5
 unfolding modeFits bytesFit pick
 returns-5 c =
-    let at-kind = c .before .before .before in
+    let at-record = c .before in
+    let at-kind = at-record .before in
     let asks = at-kind .before .pre in
-    reads-carried _ _ _ _ 5 (asks .0) (at-kind .match .keys5) (c .before .before .record-fits2 .ensures) refl refl
+    reads-carried _ _ _ _ 5 (asks .0) (at-kind .match .keys5) (at-record .record-fits2 .ensures) refl refl (c .wanted-fits2 .ensures)
 
 returns-6 : tie.Need-returns-6
 unfolding modeFits bytesFit pick
@@ -88,9 +95,11 @@ is-carried-spec =
     (tie.spec
     path-fits-requires
     data-fits-requires
+    wanted-fits-requires
     record-fits-requires
     data-fits-requires-2
     record-fits-requires-2
+    wanted-fits-requires-2
     data-fits-requires-3
     data-fits-requires-4
     returns
