@@ -1,5 +1,6 @@
 // The reader of answers: it reads an answer once, from front to back, and says the place of its first bad byte; and the results of an
 // answer one by one.
+#![tactic(auto)]
 pub mod results;
 mod turns;
 pub mod words;
@@ -15,7 +16,7 @@ use turns::turns_from;
 use words::{Worded, Words, has_data, word_at};
 
 // What a good answer comes to: its count, the place of its first result, and the place where its results end.
-#[derive(Drop)]
+#[derive(Clone, Copy)]
 pub struct Summary {
     pub count: usize,
     pub first: usize,
@@ -23,7 +24,7 @@ pub struct Summary {
 }
 
 // What reading an answer comes to: a summary, or the place of the first bad byte.
-#[derive(Drop)]
+#[derive(Clone, Copy)]
 pub enum Answered {
     Read(Summary),
     Bad(usize),

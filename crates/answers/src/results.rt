@@ -16,7 +16,7 @@ pub const COMPACT_DATA: usize = 3;
 pub const MOST_DATA: usize = 256;
 
 // A length and the place behind it; or the place where its reading stops.
-#[derive(Drop)]
+#[derive(Clone, Copy)]
 pub enum Sized {
     Size(usize, usize),
     Bad(usize),
@@ -24,7 +24,7 @@ pub enum Sized {
 
 // What stands at a place: an R-APDU (its word, where its data begin and how many there are), a Bad format TLV (its code and where that
 // stands), or the place of a bad byte.
-#[derive(Drop)]
+#[derive(Clone, Copy)]
 pub enum Piece {
     Result(usize, usize, usize),
     BadFormat(usize, usize),
@@ -32,7 +32,7 @@ pub enum Piece {
 }
 
 // A result on its own: its word, where its data begin and how many there are; the code of a Bad format TLV; or no more.
-#[derive(Drop)]
+#[derive(Clone, Copy)]
 pub enum Told {
     Result(usize, usize, usize),
     BadFormat(usize),

@@ -9,7 +9,7 @@ use command::ends::goes_on;
 
 // A reading of results on its way: its place, how many were read, how many may still come (in AF: whether one may), whether it goes on,
 // and, where it does not, whether it came to a good end.
-#[derive(Drop)]
+#[derive(Clone, Copy)]
 pub struct Turn {
     pub at: usize,
     pub seen: usize,

@@ -3,7 +3,7 @@ ghost use Rattle.std.specs.Prelude.{◌≡◌};
 ghost use Rattle.answers.specs.Words as spec;
 
 // The words of a compact answer, of an R-APDU without data, and of one with data.
-#[derive(Drop)]
+#[derive(Clone, Copy)]
 pub enum Words {
     Compact,
     Expanded,
@@ -11,7 +11,7 @@ pub enum Words {
 }
 
 // A word that was read, or the place where its reading stops.
-#[derive(Drop)]
+#[derive(Clone, Copy)]
 pub enum Worded {
     Word(usize),
     Bad(usize),

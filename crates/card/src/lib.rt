@@ -6,6 +6,7 @@
 //          +------+--------+------+-------+--------+--------+--------+-------+---+-------+-------+
 //
 // Identifier, start and length are big-endian numbers of two bytes; `record` is the record length, and `never` the NEVER bits.
+#![tactic(auto)]
 pub mod records;
 pub mod rules;
 pub mod sound;
@@ -43,7 +44,7 @@ pub const ACTIVATED: usize = 5;
 pub const DEACTIVATED: usize = 4;
 
 // An entry of the table, read from its 16 bytes.
-#[derive(Drop)]
+#[derive(Clone, Copy)]
 pub struct Row {
     pub identifier: usize,
     pub parent: usize,

@@ -8,7 +8,7 @@ use crate::rules::can_be_child;
 use crate::{ADF, DF, MF, entries, row_at};
 
 // What a search for an entry finds: its number, or nothing.
-#[derive(Drop)]
+#[derive(Clone, Copy)]
 pub enum Found {
     At(usize),
     Nothing,

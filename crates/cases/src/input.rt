@@ -9,7 +9,7 @@ use lines::digits::is_script;
 use lines::values::{Field, Value, number_at, value_at, value_end};
 
 // A case: where its label ends, what a run is called with, and where the digits of the journal and of the script begin and end.
-#[derive(Drop)]
+#[derive(Clone, Copy)]
 pub struct Case {
     pub label: usize,
     pub application: usize,
@@ -22,7 +22,7 @@ pub struct Case {
 }
 
 // What a line asks for: a run; bad where it has another shape.
-#[derive(Drop)]
+#[derive(Clone, Copy)]
 pub enum Asked {
     Run(Case),
     Bad,

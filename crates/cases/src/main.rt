@@ -1,4 +1,5 @@
 // The program of the cases: it runs the case of each line that it reads on the worked card, and prints its line.
+#![tactic(auto)]
 mod input;
 mod line;
 

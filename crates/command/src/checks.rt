@@ -5,7 +5,7 @@ ghost use Rattle.command.specs.Checks as spec;
 // A check, named after what is wrong where it fails, in the order of the paper: first those that every command meets, up to the access
 // domain; then the two of SELECT, the two of GET RESPONSE, and those of a command on a file, up to the journal. The last one is about the
 // answer of an expanded script.
-#[derive(Drop)]
+#[derive(Clone, Copy)]
 pub enum Check {
     BrokenForm,
     UnknownInstruction,
@@ -32,7 +32,7 @@ pub enum Check {
 }
 
 // What came of some checks, in their order: all passed, or this one was the first that failed.
-#[derive(Drop)]
+#[derive(Clone, Copy)]
 pub enum Checked {
     Passed,
     Failed(Check),

@@ -44,7 +44,7 @@ pub fn data_count(o: Outcome) -> usize
 }
 
 // Returns whether a script goes on after a word.
-pub fn goes_on_lem(word: usize) -> bool
+pub fn goes_on(word: usize) -> bool
     ensures { result ≡ spec.goes_on word }
 {
     (word == NORMAL)

@@ -1,4 +1,5 @@
 // One command, in its parsed form.
+#![tactic(auto)]
 pub mod checks;
 pub mod ends;
 pub mod instruction;
@@ -8,7 +9,7 @@ use checks::Check;
 use session::Session;
 
 // The format of a script and of its answer.
-#[derive(Drop)]
+#[derive(Clone, Copy)]
 pub enum Format {
     Compact,
     Expanded,
@@ -16,7 +17,7 @@ pub enum Format {
 
 // A command as both formats read it: whether its form is whole, its header (p3 is Le, or what stands in its place in a compact
 // command), the case that it has, and whether it is a compact command with bytes after it. Its data are lent beside it.
-#[derive(Drop)]
+#[derive(Clone, Copy)]
 pub struct Command {
     pub whole: bool,
     pub class: usize,
@@ -29,7 +30,7 @@ pub struct Command {
 }
 
 // A command as it stands in some bytes: its parsed form, and where its data lie and how many there are.
-#[derive(Drop)]
+#[derive(Clone, Copy)]
 pub struct Reading {
     pub command: Command,
     pub from: usize,
@@ -38,7 +39,7 @@ pub struct Reading {
 
 // How a command ends: well with a word and no data; well with a word and a part of the file memory (its place and length); well
 // with a word and the first waiting bytes (their number); or with the check that failed, whose word it is.
-#[derive(Drop)]
+#[derive(Clone, Copy)]
 pub enum Outcome {
     Well(usize),
     FromFiles(usize, usize, usize),

@@ -1,4 +1,5 @@
 // Compact scripts.
+#![tactic(auto)]
 pub mod answer;
 mod read;
 mod reader;

@@ -11,7 +11,7 @@ ghost use Rattle.step.specs.Steps.{state_of};
 ghost use Rattle.compact.specs.Compact as spec;
 
 use crate::reader::next_reading;
-use command::ends::{goes_on_lem, word_of};
+use command::ends::{goes_on, word_of};
 use command::{Format, Outcome, Reading, Step};
 use step::lent::{not_begun, step};
 
@@ -30,7 +30,7 @@ fn next_place(script: &[u8], reading: Reading, o: Outcome) -> usize
     requires { spec.place_after reading ≤ length script.now }
     ensures { result ≡ pick (goes_on (word_of o)) (spec.place_after reading) (length script.now) }
 {
-    if goes_on_lem(word_of(o)) {
+    if goes_on(word_of(o)) {
         return reading.from + reading.size;
     }
     script.len()

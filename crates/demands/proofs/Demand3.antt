@@ -10,7 +10,7 @@ pub demand3 : Demand3
 demand3 =
     record {
       history = replayed;
-      take_back_met = taken_back;
+      take_back = taken_back;
       length_alone = length_alone_lem;
       afresh = told-afresh;
       one_memory = told-again;

@@ -12,7 +12,7 @@ use Rattle.journal.specs.Changes.{taken_back, with_mark}
 use Rattle.command.specs.declared.Format.{Format}
 use Rattle.command.specs.declared.Format.TheVariants.{Compact, Expanded}
 use Rattle.engine.specs.Numbers.{Arguments, format_of, first_given, run_refusals, take_back_refusals, confirm_refusals}
-use Rattle.engine.specs.Calls.{Result, gives, numbered, accepted, unless_refused, run_script, run, take_back_met, confirm}
+use Rattle.engine.specs.Calls.{Result, gives, numbered, accepted, unless_refused, run_script, run, take_back, confirm}
 use Rattle.engine.proofs.Answers.{given_nothing, given-done}
 use Rattle.engine.proofs.RunNumbers.{RunMet, is_met, meets}
 use Rattle.demands.specs.Called.{Call, running, taking_back, confirming, result_of, number, lent_response}
@@ -36,8 +36,8 @@ pub run-number : (a : Arguments) (c : Card) → number (run a c) ≡ first_given
 unfolding run
 run-number a c = given-number _ c a.response _ (script-done (format_of a.format a.script) a _)
 
-pub back_number : (c : Card) → number (take_back_met c) ≡ first_given (take_back_refusals c)
-unfolding take_back_met
+pub back_number : (c : Card) → number (take_back c) ≡ first_given (take_back_refusals c)
+unfolding take_back
 back_number c = given-number _ c [] _ refl
 
 pub confirm-number : (c : Card) → number (confirm c) ≡ first_given (confirm_refusals c)
@@ -56,7 +56,7 @@ run-done a c ok = given-done _ c a.response _ (sym (run-number a c) ∙ ok)
 
 -- a refused call gives its number and nothing else
 pub refused : (h : Call) (c : Card) → (number (result_of h c) ≡ 0 → ⊥) → result_of h c ≡ gives (numbered (number (result_of h c))) c (lent_response h)
-unfolding result_of run take_back_met confirm lent_response
+unfolding result_of run take_back confirm lent_response
 refused (running a) c z = given_alone _ c a.response _ (script-done (format_of a.format a.script) a _) z
 refused taking_back c z = given_alone _ c [] _ refl z
 refused confirming c z = given_alone _ c [] _ refl z
@@ -67,5 +67,5 @@ unchanged h c z = ap (λ (r : Result). r.card) (refused h c z)
 
 -- an accepted take-back leaves the card that `taken_back` gives
 pub back_card : (c : Card) → number (result_of taking_back c) ≡ 0 → (result_of taking_back c).card ≡ taken_back c
-unfolding result_of take_back_met
+unfolding result_of take_back
 back_card c ok = ap (λ (r : Result). r.card) (given-done _ c [] _ (sym (back_number c) ∙ ok))

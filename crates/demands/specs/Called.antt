@@ -3,7 +3,7 @@ use Rattle.std.specs.Prelude.{ℕ, List, [], take}
 use Rattle.card.specs.Row.{Card}
 use Rattle.engine.specs.declared.Answer.{Answer}
 use Rattle.engine.specs.Numbers.{Arguments}
-use Rattle.engine.specs.Calls.{Result, run, take_back_met, confirm}
+use Rattle.engine.specs.Calls.{Result, run, take_back, confirm}
 
 -- a call: a run with all its arguments, its response memory among them, a take-back, or a confirmation
 pub data Call : Type 0 where
@@ -13,7 +13,7 @@ pub data Call : Type 0 where
 -- what a call on a card gives: its answer, the card after it, and the response memory after it
 unfoldable pub result_of : Call → Card → Result
 result_of (running a) c = run a c
-result_of taking_back c = take_back_met c
+result_of taking_back c = take_back c
 result_of confirming c = confirm c
 
 -- the call's number

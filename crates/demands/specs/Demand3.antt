@@ -75,7 +75,7 @@ pub record Demand3 : Type 0 where
   -- any history from any card, each run with the response memory that it was lent
   pub history : (c : Card) (hs : List Call) → AllInBytes hs → Replayed c hs
   -- the plain case: a take-back after an accepted run has number 0, and gives back table, files and journal, byte by byte
-  pub take_back_met :
+  pub take_back :
       (a : Arguments) (c : Card) → InBytes (running a) → number (result_of (running a) c) ≡ 0
       → result_of taking_back (result_of (running a) c).card ≡ gives (numbered 0) c []
   -- of a run's response memory the length alone counts

@@ -11,7 +11,7 @@ use operations::rows::{
 };
 
 // An operation that a line asks for: its kind, mode and number, how many bytes it has or wants, and where the digits of its bytes begin.
-#[derive(Drop)]
+#[derive(Clone, Copy)]
 pub struct Asking {
     pub kind: usize,
     pub mode: usize,
@@ -21,7 +21,7 @@ pub struct Asking {
 }
 
 // What a line asks for; bad where it has another shape.
-#[derive(Drop)]
+#[derive(Clone, Copy)]
 pub enum Line {
     Asks(Asking),
     Bad,

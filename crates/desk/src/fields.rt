@@ -9,7 +9,7 @@ use lines::values::{Value, value_at, value_end};
 use operations::rows::{ABSOLUTE, BACKWARD, FORWARD, NEXT, PREVIOUS};
 
 // A mode, a number, and the place of what follows; bad where another stands there.
-#[derive(Drop)]
+#[derive(Clone, Copy)]
 pub enum Which {
     At(usize, usize, usize),
     Bad,

@@ -1,4 +1,5 @@
 // The text of the desk: a list of operations and an answer, as lines that a person reads and writes.
+#![tactic(auto)]
 mod asking;
 pub mod builds;
 mod fields;

@@ -15,7 +15,7 @@ use operations::rows::{ROW_SIZE, is_read};
 pub const MOST_TEXT: usize = 65536;
 
 // How many bytes a list and its data have, at the starts of two memories; or the number of the first line that is not as asked.
-#[derive(Drop)]
+#[derive(Clone, Copy)]
 pub enum Listing {
     Listed(usize, usize),
     Bad(usize),

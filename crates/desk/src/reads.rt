@@ -24,7 +24,7 @@ pub const MOST_READ: usize = 131090;
 pub const MOST_PRINTED: usize = 64 + 5 * 65536;
 
 // A printing of results on its way: the place in the answer, the place behind what is printed, and whether it goes on.
-#[derive(Drop)]
+#[derive(Clone, Copy)]
 pub struct Shown {
     pub place: usize,
     pub to: usize,

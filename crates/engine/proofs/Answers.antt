@@ -12,7 +12,7 @@ use Rattle.journal.specs.Sound.{sound_card}
 use Rattle.journal.specs.Changes.{taken_back, confirmed}
 use Rattle.engine.specs.declared.Answer.{Answer}
 use Rattle.engine.specs.Numbers.{first_given, not_sound, take_back_refusals, confirm_refusals}
-use Rattle.engine.specs.Calls.{Result, gives, numbered, unless_refused, take_back_met, confirm}
+use Rattle.engine.specs.Calls.{Result, gives, numbered, unless_refused, take_back, confirm}
 use Rattle.engine.specs.Promised.{AnswerFits}
 
 -- a call gives its number alone where one is given, and else what it does
@@ -27,16 +27,16 @@ module _ (n : ℕ) (c : Card) (response : List ℕ) (r : Result) where
 
 -- the calls without a script
 module _ (c : Card) where
-  pub back_unsound : sound_card c ≡ false → take_back_met c ≡ gives (numbered 1) c []
-  unfolding take_back_met unless_refused first_given take_back_refusals not_sound pick
+  pub back_unsound : sound_card c ≡ false → take_back c ≡ gives (numbered 1) c []
+  unfolding take_back unless_refused first_given take_back_refusals not_sound pick
   back_unsound bad = rw bad
 
-  pub back_none : sound_card c ≡ true → scripts_on_trial c.journal ≡ 0 → take_back_met c ≡ gives (numbered 7) c []
-  unfolding take_back_met unless_refused first_given take_back_refusals not_sound pick
+  pub back_none : sound_card c ≡ true → scripts_on_trial c.journal ≡ 0 → take_back c ≡ gives (numbered 7) c []
+  unfolding take_back unless_refused first_given take_back_refusals not_sound pick
   back_none sound none = rw (sound, eq-eqb (scripts_on_trial c.journal) 0 none)
 
-  pub back_done : sound_card c ≡ true → (scripts_on_trial c.journal ≡ 0 → ⊥) → take_back_met c ≡ gives (numbered 0) (taken_back c) []
-  unfolding take_back_met unless_refused first_given take_back_refusals not_sound pick
+  pub back_done : sound_card c ≡ true → (scripts_on_trial c.journal ≡ 0 → ⊥) → take_back c ≡ gives (numbered 0) (taken_back c) []
+  unfolding take_back unless_refused first_given take_back_refusals not_sound pick
   back_done sound some = rw (sound, ne_eqb (scripts_on_trial c.journal) 0 some)
 
   pub confirm_unsound : sound_card c ≡ false → confirm c ≡ gives (numbered 1) c []

@@ -66,8 +66,8 @@ run a c =
     (run_script (format_of a.format a.script) a (with_mark c))
 
 -- "a take-back or confirmation has length and count 0"; neither is lent response memory
-unfoldable pub take_back_met : Card → Result
-take_back_met c = unless_refused (first_given (take_back_refusals c)) c [] (gives (numbered 0) (taken_back c) [])
+unfoldable pub take_back : Card → Result
+take_back c = unless_refused (first_given (take_back_refusals c)) c [] (gives (numbered 0) (taken_back c) [])
 
 unfoldable pub confirm : Card → Result
 confirm c = unless_refused (first_given (confirm_refusals c)) c [] (gives (numbered 0) (confirmed c) [])

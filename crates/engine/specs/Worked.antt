@@ -6,7 +6,7 @@ use Rattle.card.specs.Row.{Card, row_of}
 use Rattle.journal.specs.Entries.{used_bytes}
 use Rattle.journal.specs.Sound.{journal_length}
 use Rattle.engine.specs.Hex.{hex}
-use Rattle.engine.specs.Calls.{Result, run, take_back_met}
+use Rattle.engine.specs.Calls.{Result, run, take_back}
 
 -- "Entries: 0 MF; 1 DF 7F10 in 0; 2 transparent 6F46 in 1, start 0, length 17; 3 linear 6F3A in 1, start 17, 3 records of 4; 4
 -- cyclic 6F39 in 1, start 29, 3 records of 3; 5 ADF; 6 transparent 6F46 in 5, start 38, length 17, NEVER 2."
@@ -58,7 +58,7 @@ pub record Marked : Type 0 where
   -- "S = 00A4000C027F10 00A4000C026F46."; "*S 00D60000020141: 039000, U 18; taken back, all as before."; "*S 00B0000003: 039000FFFFFF."
   pub update : compact_answer 0 "00A4000C027F1000A4000C026F4600D60000020141" ≡ hex "039000"
   pub update_used : used_bytes (run_on 0 0 "00A4000C027F1000A4000C026F4600D60000020141").card.journal ≡ 18
-  pub update_taken_back : (take_back_met (run_on 0 0 "00A4000C027F1000A4000C026F4600D60000020141").card).card ≡ worked
+  pub update_taken_back : (take_back (run_on 0 0 "00A4000C027F1000A4000C026F4600D60000020141").card).card ≡ worked
   pub read : compact_answer 0 "00A4000C027F1000A4000C026F4600B0000003" ≡ hex "039000FFFFFF"
   -- "*00A4080C047F106F39 8032000003000005 00C0000000: 039000000005000005, newest 2, U 28; without C0: 026106."
   pub increase : compact_answer 0 "00A4080C047F106F39803200000300000500C0000000" ≡ hex "039000000005000005"

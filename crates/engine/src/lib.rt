@@ -1,4 +1,5 @@
 // The three calls.
+#![tactic(auto)]
 mod numbers;
 mod scripts;
 
@@ -14,7 +15,7 @@ use scripts::{run_compact, run_value};
 pub const LONGEST_SCRIPT: usize = 1024;
 
 // What a call answers: its number, the length of the answer, and the count of commands.
-#[derive(Drop)]
+#[derive(Clone, Copy)]
 pub struct Answer {
     pub number: usize,
     pub length: usize,
@@ -94,7 +95,7 @@ pub fn run(
 
 // Takes the newest script back where no number refuses it. Returns the number, with length 0 and count 0.
 pub fn take_back(table: &mut [u8], files: &mut [u8], journal: &mut [u8]) -> Answer
-    ensures { (spec.gives result (lent table.new files.new journal.new) [] ≡ spec.take_back_met (lent table.old files.old journal.old)) × AnswerFits result }
+    ensures { (spec.gives result (lent table.new files.new journal.new) [] ≡ spec.take_back (lent table.old files.old journal.old)) × AnswerFits result }
 {
     if !journal::sound::sound_card(table, files, journal) {
         return numbered(1);

@@ -11,7 +11,7 @@ use command::Format;
 use tlv::template::{Template, template_of};
 
 // How a run starts: the number that refuses it; a compact script; the place and the end of the value of an AA or an AE template.
-#[derive(Drop)]
+#[derive(Clone, Copy)]
 pub enum Start {
     Refused(usize),
     Compact,

@@ -27,11 +27,12 @@ pub fn run_compact(
 {
     journal::write::mark(journal);
     let step = compact::run::run(script, application, domain, table, files, journal);
+    let count = step.count;
     let length = compact::answer::put_answer(response, step, files);
     Answer {
         number: 0,
         length,
-        count: step.count,
+        count,
     }
 }
 

@@ -1,4 +1,5 @@
 // Expanded scripts.
+#![tactic(auto)]
 pub mod answer;
 mod capdu;
 mod reader;

@@ -13,7 +13,7 @@ ghost use Rattle.expanded.specs.Promised.{CapduFits, CapduLies, Reaches, RunAsks
 use crate::answer::{put_bad, put_rapdu};
 use crate::capdu::command_of;
 use crate::reader::next_item;
-use command::ends::{goes_on_lem, word_of};
+use command::ends::{goes_on, word_of};
 use command::{Format, Outcome, Reading, Step};
 use step::lent::{not_begun, step};
 use tlv::template::{Item, capdu};
@@ -38,7 +38,7 @@ fn keeps(definite: bool, case: usize) -> bool
 }
 
 // How many bytes of R-APDUs are kept, and how many after these stand there for the last command.
-#[derive(Drop)]
+#[derive(Clone, Copy)]
 struct Rapdus {
     kept: usize,
     last: usize,
@@ -76,7 +76,7 @@ fn gather(
 }
 
 // What stands at the place `at` of a template's value: whether it is a C-APDU, and then where it begins and how many bytes it has.
-#[derive(Drop)]
+#[derive(Clone, Copy)]
 struct Next {
     at: usize,
     is_capdu: bool,
@@ -110,7 +110,7 @@ fn next_after(script: &[u8], capdu: Next, o: Outcome, end: usize) -> Next
     requires { (capdu.from + capdu.size ≤ end) × (end ≤ length script.now) }
     ensures { (result ≡ next_at script.now (next_place capdu o end) end) × (result.is_capdu ≡ true → CapduLies end result) }
 {
-    if goes_on_lem(word_of(o)) {
+    if goes_on(word_of(o)) {
         return next_at(script, capdu.from + capdu.size, end);
     }
     next_at(script, end, end)

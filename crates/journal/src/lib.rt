@@ -13,6 +13,7 @@
 //          | n old bytes | kind | 0 | place |   n   | 0 | 0 |
 //          +-------------+------+---+-------+-------+---+---+
 //                        '------------- tail ---------------'
+#![tactic(auto)]
 pub mod back;
 pub mod read;
 pub mod sound;
@@ -40,7 +41,7 @@ pub const HOLDS_FILE_BYTES: usize = 2;
 pub const HOLDS_TABLE_BYTE: usize = 3;
 
 // The head of a journal: its used bytes U, its scripts on trial, and byte 3.
-#[derive(Drop)]
+#[derive(Clone, Copy)]
 pub struct Head {
     pub used: usize,
     pub scripts: u8,
@@ -48,7 +49,7 @@ pub struct Head {
 }
 
 // The tail of an entry: its kind, its place, and how many old bytes stand before it.
-#[derive(Drop)]
+#[derive(Clone, Copy)]
 pub struct Tail {
     pub kind: usize,
     pub place: usize,
@@ -56,7 +57,7 @@ pub struct Tail {
 }
 
 // The memories that a command writes.
-#[derive(Drop)]
+#[derive(Clone, Copy)]
 pub enum Memory {
     Files,
     Table,

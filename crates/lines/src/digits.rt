@@ -4,7 +4,7 @@ ghost use Rattle.octets.specs.Bytes.{overwrite};
 ghost use Rattle.lines.specs.Digits as spec;
 
 // The number that a run of digits is; bad where something else stands among them.
-#[derive(Drop)]
+#[derive(Clone, Copy)]
 pub enum Number {
     Value(usize),
     Bad,

@@ -1,4 +1,5 @@
 // What the programs read and print, and the worked card.
+#![tactic(auto)]
 pub mod digits;
 pub mod put;
 pub mod values;

@@ -5,14 +5,14 @@ ghost use Rattle.lines.specs.Values as spec;
 use crate::digits::{Number, number_of};
 
 // Where a value begins and ends; bad where none stands.
-#[derive(Drop)]
+#[derive(Clone, Copy)]
 pub enum Value {
     At(usize, usize),
     Bad,
 }
 
 // A number that was read, and the place behind the byte that ends it; bad where none could be read.
-#[derive(Drop)]
+#[derive(Clone, Copy)]
 pub enum Field {
     Value(usize, usize),
     Bad,

@@ -57,7 +57,7 @@ fn wanted_fits(format: u8, last: bool, from: usize, count: usize) -> bool
 }
 
 // Returns whether a format carries an operation beside `size` bytes of data; `last` tells that none comes after it.
-fn is_carried_lem(format: u8, size: usize, last: bool, o: Operation) -> bool
+fn is_carried(format: u8, size: usize, last: bool, o: Operation) -> bool
     requires { (spec.is_format format ≡ true) × RowFits o }
     ensures { result ≡ spec.is_carried format size last o }
 {
@@ -83,7 +83,7 @@ fn is_carried_lem(format: u8, size: usize, last: bool, o: Operation) -> bool
 
 // What a list of operations comes to: the number, from 1, of the first that the format does not carry, 0 where it carries all; and then how
 // many bytes all of them take.
-#[derive(Drop)]
+#[derive(Clone, Copy)]
 pub struct Measured {
     pub bad: usize,
     pub size: usize,

@@ -1,4 +1,5 @@
 // A list of file operations, and the script that asks a card for exactly that list.
+#![tactic(auto)]
 mod carried;
 pub mod rows;
 mod sizes;
@@ -14,7 +15,7 @@ use sizes::script_size;
 use writing::put_script;
 
 // What a build answers: 0 or why it is refused; how many operations there are, or the number of the one at fault; the script's length.
-#[derive(Drop)]
+#[derive(Clone, Copy)]
 pub struct Built {
     pub refusal: usize,
     pub operations: usize,

@@ -39,7 +39,7 @@ pub const ROW_SIZE: usize = 8;
 pub const MOST_OPERATIONS: usize = 40;
 
 // An operation.
-#[derive(Drop)]
+#[derive(Clone, Copy)]
 pub struct Operation {
     pub kind: usize,
     pub mode: usize,

@@ -1,4 +1,5 @@
 // What a command comes to: what its instruction does, before anything is stored.
+#![tactic(auto)]
 pub mod does;
 pub mod records;
 pub mod search;
@@ -17,7 +18,7 @@ use command::{Format, Outcome};
 use session::Standing;
 
 // A new record of a cyclic file: the file's entry number, start, size and record length, and the oldest place.
-#[derive(Drop)]
+#[derive(Clone, Copy)]
 pub struct NewRecord {
     pub entry: usize,
     pub start: usize,
@@ -28,7 +29,7 @@ pub struct NewRecord {
 
 // What a command writes: nothing; its data into a file (its start and size) at an offset; its data, or the sum at the start of what it
 // made, as a new record; or a byte of the table at a place.
-#[derive(Drop)]
+#[derive(Clone, Copy)]
 pub enum Change {
     Nothing,
     Content(usize, usize, usize),
@@ -38,7 +39,7 @@ pub enum Change {
 }
 
 // The session after a command, how it ends, how many bytes it made that go to the waiting ones, and what it writes.
-#[derive(Drop)]
+#[derive(Clone, Copy)]
 pub struct Decision {
     pub session: Standing,
     pub outcome: Outcome,

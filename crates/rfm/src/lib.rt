@@ -1,4 +1,5 @@
 // The C boundary: the three calls over numbers and slices alone, as include/rfm.h declares them.
+#![tactic(auto)]
 ghost use Rattle.std.specs.Prelude.{◌≡◌, []};
 ghost use Rattle.card.specs.Row.{lent};
 ghost use Rattle.engine.specs.Calls as calls;
@@ -47,7 +48,7 @@ pub extern "C" fn rfm_run(
 // Takes the newest script back. Returns the call's number, count and length in one number.
 #[unsafe(no_mangle)]
 pub extern "C" fn rfm_take_back(table: &mut [u8], files: &mut [u8], journal: &mut [u8]) -> u64
-    ensures { crosses result (lent table.new files.new journal.new) [] ≡ across (calls.take_back_met (lent table.old files.old journal.old)) }
+    ensures { crosses result (lent table.new files.new journal.new) [] ≡ across (calls.take_back (lent table.old files.old journal.old)) }
 {
     packed_answer(engine::take_back(table, files, journal))
 }

@@ -1,4 +1,5 @@
 // The session of one script.
+#![tactic(auto)]
 pub mod fcp;
 pub mod select;
 
@@ -9,7 +10,7 @@ use card::Row;
 
 // Where a script stands: entry numbers of its root, its directory and its file (0: none), the record number (0: none), how many of
 // the waiting bytes wait, and the word that is kept for them. These are the numbers of a session, passed on by value.
-#[derive(Drop)]
+#[derive(Clone, Copy)]
 pub struct Standing {
     pub root: u8,
     pub directory: u8,

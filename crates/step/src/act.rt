@@ -96,7 +96,7 @@ pub fn perform(
 
 // "A command ends well, with or without data, or with an error word": where the session stands after a command, how the command ended, and
 // how many there were with it. The session's waiting bytes are lent beside it.
-#[derive(Drop)]
+#[derive(Clone, Copy)]
 pub struct Done {
     pub standing: Standing,
     pub outcome: Outcome,

@@ -11,7 +11,7 @@ use command::{Command, Format, Outcome};
 use session::Session;
 
 // How a command ended, and how many commands there were with it.
-#[derive(Drop)]
+#[derive(Clone, Copy)]
 pub struct Ended {
     pub outcome: Outcome,
     pub count: usize,

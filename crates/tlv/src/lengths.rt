@@ -12,7 +12,7 @@ pub const WRONG_LENGTH: usize = 2;
 pub const LENGTH_MISSING: usize = 3;
 
 // What reading a length comes to: a length and the place after it, or the code of a Bad format TLV.
-#[derive(Drop)]
+#[derive(Clone, Copy)]
 pub enum Length {
     Found(usize, usize),
     Bad(usize),

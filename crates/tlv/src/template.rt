@@ -8,7 +8,7 @@ ghost use Rattle.tlv.specs.Promised.{TemplateFits, ItemFits};
 use crate::lengths::{Length, OTHER_TAG, WRONG_LENGTH, code_of, length_at};
 
 // The template of a script: its form, and where its value begins and ends; or none.
-#[derive(Drop)]
+#[derive(Clone, Copy)]
 pub enum Template {
     Definite(usize, usize),
     Indefinite(usize, usize),
@@ -16,7 +16,7 @@ pub enum Template {
 }
 
 // What stands at a place of a template's value: a C-APDU (where it begins and how many bytes it has), a bad format, or nothing more.
-#[derive(Drop)]
+#[derive(Clone, Copy)]
 pub enum Item {
     Capdu(usize, usize),
     Bad(usize),

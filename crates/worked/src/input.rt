@@ -6,7 +6,7 @@ use lines::digits::is_script;
 use lines::values::{Field, Value, number_at, value_at};
 
 // What a run is called with, and where the script's digits begin and end in the input.
-#[derive(Drop)]
+#[derive(Clone, Copy)]
 pub struct Call {
     pub application: usize,
     pub domain: u8,
@@ -16,7 +16,7 @@ pub struct Call {
 }
 
 // What the input asks for: a run; bad where it has another shape.
-#[derive(Drop)]
+#[derive(Clone, Copy)]
 pub enum Input {
     Run(Call),
     Bad,

@@ -1,4 +1,5 @@
 // The program of the worked card: it reads four lines, runs one script and prints five lines.
+#![tactic(auto)]
 mod input;
 mod output;
 mod runs;
