@@ -1,0 +1,28 @@
+-- `answers::read_answer` meets its contract: each return is the case that the definition picks. Assumes nothing.
+use mathlib.Core.Path.{◌≡◌}
+use lib.ListN.{length}
+use Rattle.octets.proofs.Picks.{picks}
+use Rattle.answers.specs.declared.Answered.{Answered}
+use Rattle.answers.specs.Answers.{read_answer}
+use Rattle.answers.specs.Promised.{AnsweredFits}
+use Rattle.answers.proofs.Fits.{answer-told}
+use Rattle.octets.proofs.Picks.{told}
+use Rattle.answers.proofs.read_answer.Goals as goal
+use Rattle.answers.proofs.read_answer.Lts as places
+
+-- what is promised of what the answer comes to
+told : (k : places.After-shared_slice_known-1) {r : Answered} → r ≡ read_answer k.before.args.format k.before.args.answer.now
+    → (r ≡ read_answer k.before.args.format k.before.args.answer.now) × AnsweredFits (length k.before.args.answer.now) r
+told k = answer-told k.before.args.answer.now (λ i. (k.shared-slice-known.given i).fits) k.before.args.format
+
+pub returns-then-format-eq0 : goal.returns-then-format-eq0
+unfolding read_answer
+returns-then-format-eq0 c = told c.before.before (search picks)
+
+pub returns-then-format-eq1 : goal.returns-then-format-eq1
+unfolding read_answer
+returns-then-format-eq1 c = told c.before.before.before (search picks)
+
+pub returns : goal.returns
+unfolding read_answer
+returns c = told c.before.before (search picks)

@@ -1,0 +1,67 @@
+-- `answers::results::piece_at` meets its contract: each return is the case that the definition picks, by the length that was read.
+-- Assumes nothing.
+use mathlib.Core.Path.{◌≡◌, refl, sym, ap, ◌∙◌}
+use Prim.Native.Nat.{ℕ}
+use mathlib.Core.List.{List}
+use lib.Dec.{eqb}
+use lib.ListN.{length}
+use native.Mathlib.Omega.{arith}
+use Rattle.octets.proofs.Picks.{yes, no, on_pick}
+use Rattle.answers.specs.declared.results.Sized.TheVariants as sized
+use Rattle.answers.specs.declared.results.Piece.{Piece}
+use Rattle.answers.specs.declared.results.Piece.TheVariants.{Bad}
+use Rattle.answers.specs.Results.{rapdu_of, bad_format_of, value_of, piece_at}
+use Rattle.answers.specs.Promised.{SizedFits, PieceFits}
+use Rattle.answers.proofs.Places.{piece_told_lem}
+use Rattle.octets.proofs.Picks.{told}
+use Rattle.answers.proofs.results.piece_at.Goals as goal
+use Rattle.answers.proofs.results.piece_at.Lts as places
+
+-- what is promised of what stands at the place
+told : (k : places.After-shared_slice_known-1) {p : Piece}
+    → (let a = k.before.args in
+    p ≡ piece_at a.answer.now a.definite a.end a.at
+    → (p ≡ piece_at a.answer.now a.definite a.end a.at) × PieceFits (length a.answer.now) a.at p)
+told k =
+    let a = k.before.args in
+    piece_told_lem a.answer.now (λ i. (k.shared-slice-known.given i).fits) a.at a.definite a.end k.before.requires
+
+-- a length that is none ends both kinds of value
+no_value : (answer : List ℕ) (tag place : ℕ) → Bad place ≡ value_of answer tag (sized.Bad place)
+unfolding value_of rapdu_of bad_format_of
+no_value answer tag place = on_pick (λ (p : Piece). Bad place ≡ p) (eqb tag 0x23) _ _ (λ rapdu. refl) (λ bad. refl)
+
+pub returns-then-definite-end : goal.returns-then-definite-end
+unfolding piece_at
+returns-then-definite-end c =
+    let at_wide = c.before in
+    told at_wide.before.before (rw (← at_wide.wide-tag.ensures.0) (yes _ _ c.if-definite-end.true refl))
+
+pub value_of-requires : goal.value_of-requires
+unfolding SizedFits
+value_of-requires c =
+    let h = rw c.in-Size.is at c.sized_at-sized.ensures.1 in
+    (omega arith, omega arith, omega arith)
+
+pub returns-in-Size : goal.returns-in-Size
+unfolding piece_at
+returns-in-Size c =
+    let at-found = c.before.before in
+    let at-sized = at-found.before.before in
+    let at-else = at-sized.before in
+    let at_wide = at-else.before in
+    told at_wide.before.before
+    (rw (← at_wide.wide-tag.ensures.0)
+    (no _ _ at-else.if-definite-end.false
+    (c.value_of.ensures ∙ ap (value_of _ _) (sym at-found.in-Size.is ∙ at-sized.sized_at-sized.ensures.0))))
+
+pub returns-in-Bad : goal.returns-in-Bad
+unfolding piece_at
+returns-in-Bad c =
+    let at-stop = c.before in
+    let at-sized = at-stop.before.before in
+    let at-else = at-sized.before in
+    let at_wide = at-else.before in
+    told at_wide.before.before
+    (rw (← at_wide.wide-tag.ensures.0)
+    (no _ _ at-else.if-definite-end.false (no_value _ _ _ ∙ ap (value_of _ _) (sym at-stop.in-Bad.is ∙ at-sized.sized_at-sized.ensures.0))))

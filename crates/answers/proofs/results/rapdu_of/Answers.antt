@@ -1,0 +1,35 @@
+-- `answers::results::rapdu_of` meets its contract: each return is the case that the definition picks, by the word that was read.
+-- Assumes nothing.
+use mathlib.Core.Path.{◌≡◌, sym, ap, ◌∙◌}
+use Prim.Native.Nat.{◌+◌, ◌-◌}
+use Rattle.octets.proofs.Picks.{picks, lt_no}
+use Rattle.answers.specs.declared.words.Words.{Words}
+use Rattle.answers.specs.Words.{word_at}
+use Rattle.answers.specs.Results.{rapdu_ends, words_behind, rapdu_of}
+use Rattle.answers.proofs.results.rapdu_of.Goals as goal
+use Rattle.answers.proofs.results.rapdu_of.Lts as places
+
+-- the word behind the data
+read : (k : places.After-word_at-worded)
+    → (let a = k.before.before.before.before.args in
+    k.word_at_lem.result ≡ word_at (words_behind (a.n - 2)) a.answer.now (a.from + (a.n - 2)))
+read k =
+    let at_words = k.before in
+    let a = at_words.before.before.before.args in
+    k.word_at_lem.ensures ∙ ap (λ (w : Words). word_at w a.answer.now (a.from + (a.n - 2))) at_words.words-behind.ensures
+
+pub returns-then-n-lt2 : goal.returns-then-n-lt2
+unfolding rapdu_of
+returns-then-n-lt2 c = search picks
+
+pub returns-in-Word : goal.returns-in-Word
+unfolding rapdu_of rapdu_ends
+returns-in-Word c =
+    let at-word = c.before.before.before in
+    lt_no _ _ _ at-word.if-n-lt2.false (ap (rapdu_ends _ _) (sym c.in-Word.is ∙ read at-word))
+
+pub returns-in-Bad : goal.returns-in-Bad
+unfolding rapdu_of rapdu_ends
+returns-in-Bad c =
+    let at-word = c.before.before.before in
+    lt_no _ _ _ at-word.if-n-lt2.false (ap (rapdu_ends _ _) (sym c.in-Bad.is ∙ read at-word))

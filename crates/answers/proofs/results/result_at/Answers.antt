@@ -1,0 +1,36 @@
+-- `answers::results::result_at` meets its contract: each return is the case that the definition picks. Assumes nothing.
+use mathlib.Core.Path.{◌≡◌}
+use lib.ListN.{length}
+use Rattle.octets.proofs.Picks.{picks}
+use Rattle.answers.specs.declared.results.Told.{Told}
+use Rattle.answers.specs.Results.{result_at}
+use Rattle.answers.specs.Promised.{ToldFits}
+use Rattle.answers.proofs.Fits.{result_told}
+use Rattle.octets.proofs.Picks.{told}
+use Rattle.answers.proofs.results.result_at.Goals as goal
+use Rattle.answers.proofs.results.result_at.Lts as places
+
+-- what is promised of a result that is the one at the place
+told : (k : places.After-shared_slice_known-1) {r : Told}
+    → (let a = k.before.args in
+    r ≡ result_at a.format a.answer.now a.at a.end
+    → (r ≡ result_at a.format a.answer.now a.at a.end) × ToldFits (length a.answer.now) a.at r)
+told k =
+    let a = k.before.args in
+    result_told a.answer.now (λ i. (k.shared-slice-known.given i).fits) a.format a.at a.end
+
+pub returns-then-answer-end : goal.returns-then-answer-end
+unfolding result_at
+returns-then-answer-end c = told c.before (search picks)
+
+pub returns-then-format-eq0 : goal.returns-then-format-eq0
+unfolding result_at
+returns-then-format-eq0 c = told c.before.before.before (search picks)
+
+pub returns-then-format-eq1 : goal.returns-then-format-eq1
+unfolding result_at
+returns-then-format-eq1 c = told c.before.before.before.before (search picks)
+
+pub returns : goal.returns
+unfolding result_at
+returns c = told c.before.before.before (search picks)

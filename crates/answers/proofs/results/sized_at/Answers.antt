@@ -1,0 +1,62 @@
+-- `answers::results::sized_at` meets its contract: each return is the case that the definition picks, by the length that was read.
+-- Assumes nothing.
+use mathlib.Core.Path.{◌≡◌, refl, sym, ◌∙◌}
+use lib.ListN.{length}
+use native.Mathlib.Omega.{arith}
+use Rattle.octets.proofs.Picks.{yes, no}
+use Rattle.tlv.specs.Lengths.{code_of}
+use Rattle.tlv.specs.Promised.{LengthFits}
+use Rattle.answers.specs.declared.results.Sized.{Sized}
+use Rattle.answers.specs.Results.{sized_by, sized_at}
+use Rattle.answers.specs.Promised.{SizedFits}
+use Rattle.answers.proofs.Places.{sized-told}
+use Rattle.octets.proofs.Picks.{told}
+use Rattle.answers.proofs.results.sized_at.Goals as goal
+use Rattle.answers.proofs.results.sized_at.Lts as places
+
+-- what is promised of a length that is the one at the place
+told : (k : places.After-shared_slice_known-1) {r : Sized}
+    → (let a = k.before.args in
+    r ≡ sized_at a.answer.now a.definite a.end a.at
+    → (r ≡ sized_at a.answer.now a.definite a.end a.at) × SizedFits (length a.answer.now) a.at r)
+told k =
+    let a = k.before.args in
+    sized-told a.answer.now a.at k.before.requires (λ i. (k.shared-slice-known.given i).fits) a.definite a.end
+
+pub returns-in_default : goal.returns-in_default
+unfolding sized_at sized_by code_of
+returns-in_default c =
+    let at_code = c.before in
+    let at-bad = at_code.before in
+    let at_length = at-bad.before.before in
+    let is-bad = at-bad.in_default.is in
+    told at_length.before
+    (rw (c.length_stop.ensures, at_code.code_of.ensures, sym at_length.length_at-l.ensures.0 ∙ is-bad, is-bad))
+
+pub overflow_add-from : goal.overflow_add-from
+unfolding LengthFits
+overflow_add-from c =
+    let h = rw c.in-Found.is at c.length_at-l.ensures.1 in
+    omega arith
+
+pub returns-then-definite-from : goal.returns-then-definite-from
+unfolding sized_at sized_by
+returns-then-definite-from c =
+    let at-found = c.before.before in
+    let at_length = at-found.before.before in
+    told at_length.before
+    (rw (sym at_length.length_at-l.ensures.0 ∙ at-found.in-Found.is) (yes _ _ c.if-definite-from.true refl))
+
+pub overflow_sub-result : goal.overflow_sub-result
+unfolding LengthFits
+overflow_sub-result c =
+    let h = rw c.in-Found.is at c.length_at-l.ensures.1 in
+    omega arith
+
+pub returns : goal.returns
+unfolding sized_at sized_by
+returns c =
+    let at-found = c.before.before in
+    let at_length = at-found.before.before in
+    told at_length.before
+    (rw (sym at_length.length_at-l.ensures.0 ∙ at-found.in-Found.is) (no _ _ c.if-definite-from.false refl))

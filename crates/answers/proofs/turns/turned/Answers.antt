@@ -1,0 +1,95 @@
+-- `answers::turns::turned` meets its contract: each return is the case that the definition picks, by what stands there. Assumes nothing.
+use mathlib.Core.Path.{◌≡◌, sym, ap, ◌∙◌}
+use lib.ListN.{length}
+use native.Mathlib.Omega.{arith}
+use Rattle.octets.proofs.Picks.{choices, no, le_no, eq_no}
+use Rattle.answers.specs.declared.results.Piece.{Piece}
+use Rattle.answers.specs.declared.turns.Turn.{Turn}
+use Rattle.answers.specs.Answers.{went_on, turned_by, turned}
+use Rattle.answers.specs.Promised.{PieceFits, TurnedFits}
+use Rattle.answers.proofs.Places.{turned-told}
+use Rattle.octets.proofs.Picks.{told}
+use Rattle.answers.proofs.turns.turned.Goals as goal
+use Rattle.answers.proofs.turns.turned.Lts as places
+
+-- what is promised of the reading after the turn
+told : (k : places.After-shared_slice_known-1) {r : Turn}
+    → (let a = k.before.args in
+    r ≡ turned a.answer.now a.definite a.end a.t
+    → (r ≡ turned a.answer.now a.definite a.end a.t) × TurnedFits (length a.answer.now) a.t r)
+told k =
+    let a = k.before.args in
+    turned-told a.answer.now (λ i. (k.shared-slice-known.given i).fits) a.definite a.end a.t k.before.requires
+
+-- a turn that comes of what stands there
+by_piece : (k : places.After-piece_at-piece) {r : Turn} {p : Piece}
+    → (let a = k.before.before.before.before.before.before.before.before.args in
+    r ≡ turned_by a.definite a.t p → k.piece-at.result ≡ p
+    → (r ≡ turned a.answer.now a.definite a.end a.t) × TurnedFits (length a.answer.now) a.t r)
+unfolding turned
+by_piece k e known =
+    let at-else4 = k.before in
+    let at_else3 = at-else4.before.before in
+    let at_else2 = at_else3.before.before in
+    let at-else1 = at_else2.before in
+    told at-else1.before
+    (no _ _ at-else1.if1.false
+    (le_no _ _ _ at_else2.if2.false
+    (no _ _ at_else3.if3.false
+    (eq_no _ _ _ at-else4.if4.false (e ∙ ap (turned_by _ _) (sym known ∙ k.piece-at.ensures.0))))))
+
+pub returns-then-definite-at : goal.returns-then-definite-at
+unfolding turned
+returns-then-definite-at c = told c.before.before (search choices)
+
+pub returns-then-answer-at : goal.returns-then-answer-at
+unfolding turned
+returns-then-answer-at c = told c.before.before.before (search choices)
+
+pub returns-then-definite-answer : goal.returns-then-definite-answer
+unfolding turned
+returns-then-definite-answer c = told c.before.before.before.before.before (search choices)
+
+pub returns-then-t-eq0 : goal.returns-then-t-eq0
+unfolding turned
+returns-then-t-eq0 c =
+    let at_else3 = c.before.before.before in
+    told at_else3.before.before.before.before (search choices)
+
+pub overflow_add-from : goal.overflow_add-from
+unfolding PieceFits
+overflow_add-from c =
+    let h = rw c.in-Result.is at c.piece_at-piece.ensures.1 in
+    omega (arith, h.inside)
+
+pub overflow_add-from-in-Result : goal.overflow_add-from-in-Result
+unfolding PieceFits
+overflow_add-from-in-Result c =
+    let h = rw c.in-Result.is at c.piece_at-piece.ensures.1 in
+    omega (arith, h.inside)
+
+pub overflow_add-place : goal.overflow_add-place
+unfolding PieceFits
+overflow_add-place c =
+    let h = rw c.in-BadFormat.is at c.piece_at-piece.ensures.1 in
+    omega arith
+
+pub returns-in-Result : goal.returns-in-Result
+unfolding turned_by
+returns-in-Result c =
+    let at_left = c.before in
+    let at-found = at_left.before.before in
+    let at_piece = at-found.before.before in
+    by_piece at_piece (c.went_on.ensures ∙ ap (went_on _ _) at_left.left_behind.ensures) at-found.in-Result.is
+
+pub returns-in-BadFormat : goal.returns-in-BadFormat
+unfolding turned_by
+returns-in-BadFormat c =
+    let at-found = c.before.before in
+    by_piece at-found.before.before c.went_on-in-BadFormat.ensures at-found.in-BadFormat.is
+
+pub returns-in-Bad : goal.returns-in-Bad
+unfolding turned_by
+returns-in-Bad c =
+    let at-found = c.before.before in
+    by_piece at-found.before.before c.stopped-in-Bad.ensures at-found.in-Bad.is

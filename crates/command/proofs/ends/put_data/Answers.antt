@@ -1,0 +1,110 @@
+-- `command::ends::put_data` meets its contract: in each arm, what the outcome's fitting tells of it, and then its bytes.
+-- An arm knows which outcome was given, so what is asked of the given outcome holds of the arm's own (`fits`, `left`), and the
+-- arm's own bytes are those asked for (`written`). The two arms with data copy what `from_files` and `from_waiting` lend: a part of
+-- the file memory, or the first waiting bytes. The two without data write nothing, which is a write of no bytes. The points of the
+-- walk are the start, the match (`at-o`, `at-o2`), the call that lends and the copy. Assumes nothing.
+use mathlib.Core.Path.{◌≡◌, sym, ap, ◌∙◌}
+use mathlib.Core.List.{List}
+use Prim.Native.Nat.{◌+◌, ◌≤◌}
+use native.Mathlib.Omega.{arith}
+use lib.ListN.{length}
+use lib.Seq.{length-take-le}
+use Rattle.octets.specs.Bytes.{overwrite}
+use Rattle.octets.proofs.Writes.{part_length, write-none}
+use Rattle.command.specs.declared.Outcome.{Outcome}
+use Rattle.command.specs.Outcomes.{data_of, data_count}
+use Rattle.command.specs.Promised.{OutcomeFits}
+use Rattle.command.proofs.Outgoing.{known_fits, known_room, known_data}
+use Rattle.command.proofs.ends.put_data.Goals as goal
+use Rattle.command.proofs.ends.put_data.Lts as places
+
+-- an arm's outcome: it fits, there is room for it, and its bytes are those asked
+module _ (s : places.Start) {other : Outcome} (same : s.args.o ≡ other) where
+  fits : OutcomeFits (length s.args.files.now) other
+  fits = known_fits same _ s.requires.0
+
+  left : s.args.at + data_count other ≤ length s.args.out.now
+  left = known_room same _ _ s.pre.2
+
+  written : {m : List _} → m ≡ overwrite s.args.out.now s.args.at (data_of other s.args.files.now s.args.waiting.now)
+      → (m ≡ overwrite s.args.out.now s.args.at (data_of s.args.o s.args.files.now s.args.waiting.now)) × (s.args.at + data_count other ≡ s.args.at + data_count s.args.o)
+  written = known_data same _ _ _ _
+
+pub from_files-requires : goal.from_files-requires
+unfolding OutcomeFits
+from_files-requires c =
+    let at-o = c.before.before in
+    let at-start = at-o.before.before.before.before.before in
+    (fits (at-start) at-o.in-FromFiles.is).0
+
+pub copy-requires : goal.copy-requires
+unfolding OutcomeFits
+copy-requires c =
+    let at-o = c.before.before.before in
+    let at-start = at-o.before.before.before.before.before in
+    let s = at-start in
+    let k = at-o.o-1.given in
+    rw (c.from_files.ensures, part_length s.args.files.now k.0.1.0 k.0.1.1.0 (fits s k.1).0) (left s k.1)
+
+pub overflow_add-result : goal.overflow_add-result
+overflow_add-result c =
+    let at-o = c.before.before.before.before.before.before in
+    let at-start = at-o.before.before.before.before.before in
+    omega (arith, left (at-start) at-o.in-FromFiles.is)
+
+pub from_waiting-requires : goal.from_waiting-requires
+unfolding OutcomeFits
+from_waiting-requires c =
+    let at-o2 = c.before.before in
+    let at-start = at-o2.before.before.before.before.before in
+    let s = at-start in
+    omega (arith, fits s at-o2.in-FromWaiting.is, s.requires.1)
+
+pub copy-requires-in-FromWaiting : goal.copy-requires-in-FromWaiting
+unfolding OutcomeFits
+copy-requires-in-FromWaiting c =
+    let at-o2 = c.before.before.before in
+    let at-start = at-o2.before.before.before.before.before in
+    let s = at-start in
+    let k = at-o2.o-in-FromWaiting-1.given in
+    rw (c.from_waiting.ensures, length-take-le k.0.1.0 s.args.waiting.now (omega (arith, fits s k.1, s.requires.1))) (left s k.1)
+
+pub overflow_add-result-in-FromWaiting : goal.overflow_add-result-in-FromWaiting
+overflow_add-result-in-FromWaiting c =
+    let at-o2 = c.before.before.before.before.before.before in
+    let at-start = at-o2.before.before.before.before.before in
+    omega (arith, left (at-start) at-o2.in-FromWaiting.is)
+
+pub returns-in-Well : goal.returns-in-Well
+unfolding data_of
+returns-in-Well c =
+    let s = c.before.before.before.before.before in
+    let w = written s c.in-Well.is (sym (write-none s.args.out.now s.args.at)) in
+    (w.0, omega (arith, w.1))
+
+pub returns-in-FromFiles : goal.returns-in-FromFiles
+unfolding data_of
+returns-in-FromFiles c =
+    let at_copy = c.before.before in
+    let at-from-files = at_copy.before in
+    let at-o = at-from-files.before.before.before in
+    let at-start = at-o.before.before.before.before.before in
+    let s = at-start in
+    written s at-o.in-FromFiles.is (at_copy.copy.ensures ∙ ap (overwrite s.args.out.now s.args.at) at-from-files.from_files.ensures)
+
+pub returns-in-FromWaiting : goal.returns-in-FromWaiting
+unfolding data_of
+returns-in-FromWaiting c =
+    let at-copy2 = c.before.before in
+    let at-from-waiting = at-copy2.before in
+    let at-o2 = at-from-waiting.before.before.before in
+    let at-start = at-o2.before.before.before.before.before in
+    let s = at-start in
+    written s at-o2.in-FromWaiting.is (at-copy2.copy-in-FromWaiting.ensures ∙ ap (overwrite s.args.out.now s.args.at) at-from-waiting.from_waiting.ensures)
+
+pub returns-in-Error : goal.returns-in-Error
+unfolding data_of
+returns-in-Error c =
+    let s = c.before.before.before.before.before in
+    let w = written s c.in-Error.is (sym (write-none s.args.out.now s.args.at)) in
+    (w.0, omega (arith, w.1))

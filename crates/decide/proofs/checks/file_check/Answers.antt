@@ -1,0 +1,151 @@
+-- `decide::checks::file_check` meets its contract: at each return the checks before are passed, and the one that fails is the first.
+-- Each check has three parts: where the walk stands when it is tested (`from-..`, from the one before), what it finds in every situation
+-- that the contract speaks of, and that it is passed. Assumes nothing.
+use mathlib.Core.Bool.{not}
+use Prim.Native.Nat.{ℕ}
+use native.Mathlib.Omega.{arith}
+use lib.Dec.{eqb}
+use lib.ListN.{drop}
+use borrow.Author.Tests.{eq-eqb, ne_eqb, not-false}
+use Rattle.octets.proofs.Picks.{told}
+use Rattle.decide.proofs.Finds.{Finds, finds_file, finds_kind, finds_mode, finds_shut, finds_never, finds_offset, finds_record, finds_length}
+use Rattle.decide.proofs.Order.{Left, all_left, passes, is-first, none_left}
+use Rattle.plan.specs.Plans.{Situation, offset_of}
+use Rattle.command.specs.declared.checks.Check.TheVariants.{NoFile, WrongKind, WrongMode, Deactivated, Never, OffsetOutside, NoRecord, WrongLength}
+use Rattle.decide.specs.Order.{bound_checks}
+use Rattle.decide.specs.Promised.{Bound}
+use Rattle.std.proofs.lemmas.Bool.{not_from_true, not_from_false}
+use Rattle.decide.proofs.checks.file_check.Goals as goal
+use Rattle.decide.proofs.checks.file_check.Lts as places
+
+pub overflow_mul-offset : goal.overflow_mul-offset
+overflow_mul-offset c = omega (arith, c.requires.2.p1)
+
+pub overflow_add-offset : goal.overflow_add-offset
+overflow_add-offset c = omega (arith, c.requires.2.p1, c.requires.2.p2)
+
+-- what is known of the situations, and that the first n checks are passed
+abbrev Known : places.Start → Situation → Type 0
+Known s = Bound s.args.c s.args.lc s.args.s s.args.r
+
+abbrev Past : places.Start → ℕ → Type 0
+Past s n = Left (Known s) bound_checks (drop n bound_checks)
+
+abbrev to_file : places.After-target → places.Start
+to_file c = c.before.before.before
+
+file : (c : places.After-target) → Finds (Known (to_file c)) NoFile (eqb c.target.result 0)
+file c = finds_file _ _ _ _ c.requires.0 c.target.ensures
+
+abbrev from-file : places.Else-target-eq0 → places.Start
+from-file c = to_file c.before
+
+past-file : (c : places.Else-target-eq0) → Past (from-file c) 1
+unfolding bound_checks
+past-file c = passes (all_left (Known (from-file c)) bound_checks) (file c.before) (ne_eqb _ _ c.if-target-eq0.false)
+
+pub returns-then-target-eq0 : goal.returns-then-target-eq0
+unfolding bound_checks
+returns-then-target-eq0 c = is-first (all_left (Known (to_file c.before)) bound_checks) (file c.before) (eq-eqb _ _ c.if-target-eq0.true)
+
+kind : (c : places.After-kind_fits) → Finds (Known (from-file c.before)) WrongKind (not c.kind_fits.result)
+kind c = finds_kind _ _ _ _ (from-file c.before).requires.0 c.kind_fits.ensures
+
+abbrev from-kind : places.Else-not-kind_fits → places.Start
+from-kind c = from-file c.before.before
+
+past-kind : (c : places.Else-not-kind_fits) → Past (from-kind c) 2
+unfolding bound_checks
+past-kind c = passes (past-file c.before.before) (kind c.before) (not_from_true _ c.if-not-kind_fits.false)
+
+pub returns-then-not-kind_fits : goal.returns-then-not-kind_fits
+unfolding bound_checks
+returns-then-not-kind_fits c = is-first (past-file c.before.before) (kind c.before) (not_from_false _ c.if-not-kind_fits.true)
+
+mode : (c : places.After-wrong_mode) → Finds (Known (from-kind c.before)) WrongMode c.wrong_mode.result
+mode c = finds_mode _ _ _ _ (from-kind c.before).requires.0 c.wrong_mode.ensures
+
+abbrev from-mode : places.Else-wrong_mode → places.Start
+from-mode c = from-kind c.before.before
+
+past-mode : (c : places.Else-wrong_mode) → Past (from-mode c) 3
+unfolding bound_checks
+past-mode c = passes (past-kind c.before.before) (mode c.before) c.if-wrong_mode.false
+
+pub returns-then-wrong_mode : goal.returns-then-wrong_mode
+unfolding bound_checks
+returns-then-wrong_mode c = is-first (past-kind c.before.before) (mode c.before) c.if-wrong_mode.true
+
+shut : (c : places.After-is_shut) → Finds (Known (from-mode c.before)) Deactivated c.is_shut.result
+shut c = finds_shut _ _ _ _ (from-mode c.before).requires.0 c.is_shut.ensures
+
+abbrev from_shut : places.Else-is_shut → places.Start
+from_shut c = from-mode c.before.before
+
+past_shut : (c : places.Else-is_shut) → Past (from_shut c) 4
+unfolding bound_checks
+past_shut c = passes (past-mode c.before.before) (shut c.before) c.if-is_shut.false
+
+pub returns-then-is_shut : goal.returns-then-is_shut
+unfolding bound_checks
+returns-then-is_shut c = is-first (past-mode c.before.before) (shut c.before) c.if-is_shut.true
+
+never : (c : places.After-is_never) → Finds (Known (from_shut c.before)) Never c.is_never.result
+never c = finds_never _ _ _ _ (from_shut c.before).requires.0 c.is_never.ensures
+
+abbrev from-never : places.Else-is_never → places.Start
+from-never c = from_shut c.before.before
+
+past-never : (c : places.Else-is_never) → Past (from-never c) 5
+unfolding bound_checks
+past-never c = passes (past_shut c.before.before) (never c.before) c.if-is_never.false
+
+pub returns-then-is_never : goal.returns-then-is_never
+unfolding bound_checks
+returns-then-is_never c = is-first (past_shut c.before.before) (never c.before) c.if-is_never.true
+
+offset : (c : places.After-offset_outside) → Finds (Known (from-never c.before)) OffsetOutside c.offset_outside.result
+unfolding offset_of
+offset c = finds_offset _ _ _ _ (from-never c.before).requires.0 c.offset_outside.ensures
+
+abbrev from_offset : places.Else-offset_outside → places.Start
+from_offset c = from-never c.before.before
+
+past_offset : (c : places.Else-offset_outside) → Past (from_offset c) 6
+unfolding bound_checks
+past_offset c = passes (past-never c.before.before) (offset c.before) c.if-offset_outside.false
+
+pub returns-then-offset_outside : goal.returns-then-offset_outside
+unfolding bound_checks
+returns-then-offset_outside c = is-first (past-never c.before.before) (offset c.before) c.if-offset_outside.true
+
+pub no_record-requires : goal.no_record-requires
+no_record-requires c =
+    let p = c.requires in
+    (p.0, p.1, told c.kind_fits.ensures (not-false _ (not_from_true _ c.if-not-kind_fits.false)))
+
+named : (c : places.After-no_record) → Finds (Known (from_offset c.before.before)) NoRecord c.no_record.result
+named c = finds_record _ _ _ _ (from_offset c.before.before).requires.0 c.no_record.ensures
+
+abbrev from_named : places.Else-no_record → places.Start
+from_named c = from_offset c.before.before.before
+
+past-named : (c : places.Else-no_record) → Past (from_named c) 7
+unfolding bound_checks
+past-named c = passes (past_offset c.before.before.before) (named c.before) c.if-no_record.false
+
+pub returns-then-no_record : goal.returns-then-no_record
+unfolding bound_checks
+returns-then-no_record c = is-first (past_offset c.before.before.before) (named c.before) c.if-no_record.true
+
+length : (c : places.After-length_fits) → Finds (Known (from_named c.before)) WrongLength (not c.length_fits.result)
+unfolding offset_of
+length c = finds_length _ _ _ _ (from_named c.before).requires.0 c.length_fits.ensures
+
+pub returns-then-not-length_fits : goal.returns-then-not-length_fits
+unfolding bound_checks
+returns-then-not-length_fits c = is-first (past-named c.before.before) (length c.before) (not_from_false _ c.if-not-length_fits.true)
+
+pub returns : goal.returns
+unfolding bound_checks
+returns c = none_left (passes (past-named c.before.before) (length c.before) (not_from_true _ c.if-not-length_fits.false))

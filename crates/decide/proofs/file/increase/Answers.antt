@@ -1,0 +1,53 @@
+-- `decide::file::increase` meets its contract: the first check that fails, or what INCREASE does. Assumes nothing.
+use mathlib.Core.Path.{refl, sym}
+use Rattle.octets.specs.Choice.{pick}
+use Rattle.plan.specs.Files.{file_at}
+use Rattle.plan.specs.Plans.{done_by}
+use Rattle.decide.specs.Decisions.{situation}
+use Rattle.decide.proofs.Passed.{Known, to_sum, entry-inside, newest-inside, to_check, check_failed, check_passed, check_done}
+use lib.ListN.{length}
+use Rattle.decide.proofs.file.increase.Goals as goal
+use Rattle.decide.proofs.file.increase.Lts as places
+
+-- where the file's row was read from, and where all checks are passed
+abbrev start : places.After-target_row-r → places.Start
+start c = c.before.before.before.before.before
+
+abbrev row_at : places.In_default → places.After-target_row-r
+row_at c = c.before.before.before
+
+pub target_row-r-requires : goal.target_row-r-requires
+target_row-r-requires c = entry-inside c.requires.0
+
+pub checked-requires : goal.checked-requires
+checked-requires c = let p = c.requires in to_check p.0 c.target_row-r.ensures.0 p.1
+
+pub returns-in-Failed : goal.returns-in-Failed
+returns-in-Failed c =
+    check_failed c.target_row-r.ensures c.checked.ensures c.in-Failed.is c.failed.ensures _ _
+
+-- what is known where all checks are passed
+module _ (c : places.In_default) where
+  abbrev s : places.Start
+  s = start (row_at c)
+
+  known : Known (length s.args.files.now) s.args.c (length s.args.«data».now) s.args.s c.target_row-r.result
+  known = check_passed s.args.«data».now c.target_row-r.ensures c.checked.ensures c.in_default.is s.pre.0
+
+pub increase-requires : goal.increase-requires
+increase-requires c =
+    let k = c.before in
+    let p = (start (row_at k)).requires in
+    let n = to_sum (known k) p.1 in
+    record { file = n.0; short = n.1; fits = n.2; made = p.2 }
+
+pub returns : goal.returns
+unfolding situation file_at done_by pick
+returns c =
+    let at-increase = c.before.before in
+    let k = at-increase.before.before in
+    let p = (start (row_at k)).requires in
+    let row = sym k.target_row-r.ensures.0 in
+    check_done k.target_row-r.ensures k.checked.ensures k.in_default.is p.1
+    (λ journal. at-increase.increase.ensures.0 _ row refl (rw row))
+    (at-increase.increase.ensures.1 _ (newest-inside p.0))

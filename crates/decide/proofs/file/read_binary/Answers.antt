@@ -1,0 +1,51 @@
+-- `decide::file::read_binary` meets its contract: the first check that fails, or what READ BINARY does. Assumes nothing.
+use mathlib.Core.Path.{refl, sym}
+use Rattle.octets.specs.Choice.{pick}
+use Rattle.plan.specs.Files.{file_at}
+use Rattle.plan.specs.Plans.{done_by}
+use Rattle.decide.specs.Decisions.{situation}
+use Rattle.plan.proofs.Inside.{none-fits}
+use Rattle.decide.proofs.Passed.{Known, to_read, entry-inside, to_check, check_failed, check_passed, check_plainly}
+use lib.ListN.{length}
+use Rattle.decide.proofs.file.read_binary.Goals as goal
+use Rattle.decide.proofs.file.read_binary.Lts as places
+
+-- where the file's row was read from, and where all checks are passed
+abbrev start : places.After-target_row-r → places.Start
+start c = c.before.before.before.before
+
+abbrev row_at : places.In_default → places.After-target_row-r
+row_at c = c.before.before.before
+
+pub target_row-r-requires : goal.target_row-r-requires
+target_row-r-requires c = entry-inside c.requires.0
+
+pub checked-requires : goal.checked-requires
+checked-requires c = let p = c.requires in to_check p.0 c.target_row-r.ensures.0 p.1
+
+pub returns-in-Failed : goal.returns-in-Failed
+returns-in-Failed c =
+    check_failed c.target_row-r.ensures c.checked.ensures c.in-Failed.is c.failed.ensures _
+
+-- what is known where all checks are passed
+module _ (c : places.In_default) where
+  abbrev s : places.Start
+  s = start (row_at c)
+
+  known : Known (length s.args.files.now) s.args.c (length s.args.«data».now) s.args.s c.target_row-r.result
+  known = check_passed s.args.«data».now c.target_row-r.ensures c.checked.ensures c.in_default.is s.pre.0
+
+pub read_binary-requires : goal.read_binary-requires
+read_binary-requires c =
+    let p = (start (row_at c)).requires in
+    let b = p.0.bytes in
+    record { row = c.target_row-r.ensures.1; p1 = b.p1; p2 = b.p2; inside = to_read (known c) p.1 }
+
+pub returns : goal.returns
+unfolding situation file_at done_by pick
+returns c = λ bytes.
+    let k = c.before in
+    let s = start (row_at k) in
+    check_plainly k.target_row-r.ensures k.checked.ensures k.in_default.is s.pre.1 refl
+    (λ journal. c.read_binary.ensures.0 s.args.«data».now bytes _ (sym k.target_row-r.ensures.0))
+    (none-fits _ _ _ c.read_binary.ensures.1)

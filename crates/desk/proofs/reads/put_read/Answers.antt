@@ -1,0 +1,19 @@
+-- `desk::reads::put_read` meets its contract: the count and the results are put one behind the other. Assumes nothing.
+use mathlib.Core.Path.{◌∙◌}
+use native.Mathlib.Nat.{zero-add}
+use native.Mathlib.Omega.{arith}
+use Rattle.lines.specs.Digits.{ascii}
+use Rattle.lines.proofs.Written.{put, behind}
+use Rattle.desk.specs.Reads.{read_lines}
+use Rattle.desk.proofs.reads.put_read.Goals as goal
+
+pub returns : goal.returns
+unfolding read_lines ascii
+returns c =
+    let at_results = c.before.before in
+    let at_number = at_results.before.before.before.before in
+    let at-start = at_number.before.before.before.before.before in
+    let p = at-number.put_number-to.ensures in
+    let q = at_results.put_results.ensures in
+    let w = behind (put p.0 p.1) (put q.0 q.1) in
+    (w.memory (omega (arith, q.2, at-start.requires)), w.place ∙ zero-add _, q.2)

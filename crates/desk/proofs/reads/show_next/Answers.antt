@@ -1,0 +1,41 @@
+-- `desk::reads::show_next` meets its contract: each way out is what the result that stands there comes to (`shown_lines`, `shown_next`).
+-- Assumes nothing.
+use mathlib.Core.Path.{refl, sym, ◌∙◌}
+use mathlib.Core.Bool.{false}
+use native.Mathlib.Omega.{arith}
+use Rattle.octets.proofs.Writes.{write-none}
+use Rattle.answers.specs.Promised.{ToldFits}
+use Rattle.desk.specs.Reads.{shown_lines, shown_next}
+use Rattle.desk.proofs.reads.show_next.Goals as goal
+
+pub show_result-requires : goal.show_result-requires
+unfolding ToldFits
+show_result-requires c =
+    let fits = rw c.in-Result.is at c.result_at-told.ensures.1 in
+    let asks = c.requires in
+    record { small = fits.small; inside = fits.inside; room = omega (arith, fits.further, fits.inside, asks.short, asks.printed, asks.room) }
+
+pub put_code-next-requires : goal.put_code-next-requires
+unfolding ToldFits
+put_code-next-requires c =
+    let few = rw c.in-BadFormat.is at c.result_at-told.ensures.1 in
+    let asks = c.requires in
+    (omega arith, omega (arith, asks.short, asks.placed, asks.printed, asks.room))
+
+pub returns-in-Result : goal.returns-in-Result
+unfolding shown_lines shown_next
+returns-in-Result c =
+    rw (sym c.result_at-told.ensures.0 ∙ c.in-Result.is) c.show_result.ensures
+
+pub returns-in-BadFormat : goal.returns-in-BadFormat
+unfolding shown_lines shown_next
+returns-in-BadFormat c =
+    let place = c.args.s.place in
+    let p = c.put_code-next.ensures in
+    rw (sym c.result_at-told.ensures.0 ∙ c.in-BadFormat.is)
+    (p.0, λ i. record { place = place; to = p.1 i; going = false })
+
+pub returns-in-End : goal.returns-in-End
+unfolding shown_lines shown_next
+returns-in-End c =
+    rw (sym c.result_at-told.ensures.0 ∙ c.in-End.is) (sym (write-none _ _), refl)

@@ -1,0 +1,49 @@
+-- `engine::confirm` meets its contract: each `return` is a case of `confirm`. Assumes nothing.
+use mathlib.Core.Path.{◌≡◌, sym, ap, ◌∙◌}
+use mathlib.Core.Bool.{true}
+use mathlib.Core.List.{List, []}
+use Prim.Native.Nat.{ℕ}
+use native.Mathlib.Omega.{arith}
+use Rattle.octets.proofs.Picks.{told-true}
+use Rattle.card.specs.Row.{Card, lent}
+use Rattle.journal.specs.Entries.{room}
+use Rattle.journal.specs.Sound.{sound_card}
+use Rattle.journal.specs.Changes.{with_journal, confirmed}
+use Rattle.journal.proofs.Parts.{card_parts}
+use Rattle.engine.specs.Calls.{gives, numbered}
+use Rattle.engine.proofs.Answers.{answers_number, confirm_unsound, confirm-done}
+use Rattle.octets.proofs.Picks.{told}
+use Rattle.engine.proofs.confirm.Goals as goal
+use Rattle.engine.proofs.confirm.Lts as places
+
+abbrev card_of : places.Start → Card
+card_of s = lent s.args.table.now s.args.files.now s.args.journal.now
+
+-- where it starts, from where the card is looked at
+abbrev start : places.After-sound_card → places.Start
+start c = c.before.before.before.before.before
+
+pub returns-then-not-sound_card : goal.returns-then-not-sound_card
+returns-then-not-sound_card c =
+    answers_number 1 (omega arith) c.numbered.ensures _ _
+    (sym (confirm_unsound _ (told c.sound_card.ensures c.if-not-sound_card.true)))
+
+-- past the test, the card is sound
+sound : (o : places.Else-not-sound_card) → sound_card (card_of (start o.before)) ≡ true
+sound o = told-true o.before.sound-card.ensures o.if1.false
+
+pub confirm-requires : goal.confirm-requires
+unfolding room
+confirm-requires c =
+    let at-else = c.before in
+    let parts = card_parts (card_of (start at-else.before)) (sound at-else) in
+    (omega arith, parts.rest)
+
+pub returns : goal.returns
+unfolding with_journal confirmed
+returns c =
+    let at-confirm = c.before.before.before in
+    let at-else = at-confirm.before.before in
+    let a = (start at-else.before).args in
+    answers_number 0 (omega arith) c.numbered-2.ensures _ _
+    (ap (λ (j : List ℕ). gives (numbered 0) (lent a.table.now a.files.now j) []) at-confirm.confirm.ensures ∙ sym (confirm-done _ (sound at-else)))

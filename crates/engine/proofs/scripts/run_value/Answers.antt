@@ -1,0 +1,76 @@
+-- `engine::scripts::run_value` meets its contract: with its mark the card is one that a script starts from.
+-- The contract asks for a card that a script can start from once it has the mark, and the mark that is set makes the lent memories
+-- that card (`begins`), so the items may be run. The run promises that the gathered bytes fit the buffer of 1,004, and a count of at
+-- most 1,024: with the response memory that number 4 sees to that is what `put_answer` asks. What the run and the answer promise together is
+-- the definition's result on the card with its mark (`value-gives`, `with_mark_lem`). The points of the walk, each from the one after it:
+-- `ran`, `marked`, `start`. Assumes nothing.
+use mathlib.Core.Path.{sym, ap, ◌∙◌}
+use Prim.Native.Nat.{◌+◌}
+use native.Mathlib.Omega.{arith}
+use lib.ListN.{length-take}
+use lib.Seq.{length-take-le}
+use borrow.Author.Rules.{rules}
+use Rattle.card.specs.Row.{Card, lent}
+use Rattle.engine.specs.Calls.{run_value}
+use Rattle.engine.proofs.Ended.{with_mark_lem, begins, expanded_longest, expanded-small, value-gives}
+use Rattle.engine.proofs.scripts.run_value.Goals as goal
+use Rattle.engine.proofs.scripts.run_value.Lts as places
+
+-- where it starts, from where the mark is set, and its card
+abbrev start : places.After-mark → places.Start
+start m =
+    let at-slices = m.before.before in
+    at-slices.before.before.before.before.before
+
+abbrev card_of : places.Start → Card
+card_of s = lent s.args.table.now s.args.files.now s.args.journal.now
+
+-- where the mark is set, from where the room for the answer is made
+abbrev marked : places.After-rapdus-1 → places.After-mark
+marked c = c.before.before.before
+
+pub run-g-requires : goal.run-g-requires
+run-g-requires c =
+    let at_mark = marked c.before.before.before in
+    let s = start at_mark in
+    record {
+      ahead = s.pre.0;
+      inside = s.pre.1;
+      short = s.pre.2.script_short;
+      starts = begins (card_of s) at_mark.mark.ensures s.pre.2.starts;
+      room = search rules;
+    }
+
+-- where the items were run, from where the gathered bytes are lent
+abbrev ran : places.After-rapdus-3-1 → places.After-run-g
+ran c =
+    let at-journal = c.before.before.before.before.before in
+    at-journal.before.before.before.before.before.before
+
+pub slice_bounds-put_answer-end : goal.slice_bounds-put_answer-end
+slice_bounds-put_answer-end c =
+    let r = (ran c).run in
+    sym (length-take-le (r.result.kept + r.result.last) _ (omega (arith, r.ensures.1)))
+
+pub put_answer-length-requires : goal.put_answer-length-requires
+put_answer-length-requires c =
+    let at-run = ran c in
+    let s = start (marked at-run.before.before.before.before) in
+    let r = at-run.run in
+    let long = s.pre.2.response_long in (
+      omega (arith, long, expanded_longest),
+      rw length-take (omega (arith, r.ensures.1)),
+      r.ensures.2,
+    )
+
+pub returns : goal.returns
+returns c =
+    let at-put-answer = c.before.before in
+    let at-run = ran at-put-answer.before in
+    let at_mark = marked at-run.before.before.before.before in
+    let s = start at_mark in
+    let r = at-run.run in
+    let p = at-put-answer.put_answer-length.ensures in (
+      value-gives _ _ _ _ _ r.result _ _ _ _ r.ensures.0 p.0 p.1 ∙ ap (run_value _ _ _ _) (with_mark_lem (card_of s) at_mark.mark.ensures),
+      expanded-small _ r.result.step.count _ (rw length-take (omega (arith, r.ensures.1))) r.ensures.2 _ p.1,
+    )

@@ -1,0 +1,71 @@
+-- `engine::take_back` meets its contract: each `return` is a case of `take_back`.
+-- The two tests are those of the numbers 1 and 7, in their order. Past the first the card is sound (`sound`), and the head that is
+-- read says how many scripts are on trial (`scripts`); past the second there is one (`some`). These two facts are what the take_back
+-- of the journal asks. The three ends are the three cases of the definition: `back_unsound`, `back_none`, `back_done`.
+-- Assumes nothing.
+use mathlib.Core.Path.{◌≡◌, sym, ap, ◌∙◌}
+use mathlib.Core.Bool.{true}
+use mathlib.Core.List.{[]}
+use native.Mathlib.Omega.{arith}
+use Rattle.octets.proofs.Picks.{told-true}
+use Rattle.card.specs.Row.{Card, lent}
+use Rattle.journal.specs.Entries.{scripts_on_trial}
+use Rattle.journal.specs.Sound.{sound_card}
+use Rattle.journal.proofs.Pushed.{own_scripts}
+use Rattle.journal.proofs.Parts.{card_parts}
+use Rattle.engine.specs.Calls.{gives, numbered}
+use Rattle.engine.proofs.Answers.{answers_number, back_unsound, back_none, back_done}
+use Rattle.octets.proofs.Picks.{told}
+use Rattle.engine.proofs.take_back.Goals as goal
+use Rattle.engine.proofs.take_back.Lts as places
+
+abbrev card_of : places.Start → Card
+card_of s = lent s.args.table.now s.args.files.now s.args.journal.now
+
+abbrev start : places.After-sound_card → places.Start
+start k = let args = k.before.before.before in args.before.before.before.before
+
+-- past the first test the card is sound
+module _ (o : places.Else-not-sound_card) where
+  abbrev card : Card
+  card = card_of (start o.before)
+
+  sound : sound_card card ≡ true
+  sound = told-true o.before.sound-card.ensures o.if1.left
+
+-- what the head that is read says of the scripts on trial
+scripts : (k : places.After-head_of) → k.head_of.result.scripts ≡ scripts_on_trial (card k.before.before).journal
+scripts k = own_scripts (card k.before.before).journal k.head_of.ensures.0
+
+-- past the second there is a script on trial
+some : (o : places.Else-head_of-eq0) → scripts_on_trial (card o.before.before.before.before).journal ≡ 0 → ⊥
+some o none = o.if2.false (scripts o.before.before ∙ none)
+
+pub returns-then-not-sound_card : goal.returns-then-not-sound_card
+returns-then-not-sound_card c =
+    answers_number 1 (omega arith) c.numbered.ensures _ _
+    (sym (back_unsound _ (told c.sound_card.ensures c.if-not-sound_card.true)))
+
+pub head_of-requires : goal.head_of-requires
+head_of-requires c = omega (arith, (card_parts (card c.before) (sound c.before)).size)
+
+pub returns-then-head_of-eq0 : goal.returns-then-head_of-eq0
+returns-then-head_of-eq0 c =
+    let at-if2 = c.before in
+    let at_head_of = at-if2.before.before in
+    answers_number 7 (omega arith) c.numbered-then-head_of-eq0.ensures _ _
+    (sym (back_none _ (sound at_head_of.before.before) (sym (scripts at_head_of) ∙ at-if2.if-head_of-eq0.true)))
+
+pub take_back-requires : goal.take_back-requires
+take_back-requires c =
+    let at-if2 = c.before.before.before in
+    let trial = some at-if2 in
+    (sound at-if2.before.before.before.before, omega arith)
+
+pub returns : goal.returns
+returns c =
+    let at_table = c.before.before.before.before.before.before in
+    let at-take-back = at_table.before in
+    let at-if2 = at-take-back.before.before.before.before in
+    answers_number 0 (omega arith) c.numbered-2.ensures _ _
+    (ap (λ (k : Card). gives (numbered 0) k []) at-take-back.take_back.ensures ∙ sym (back_done _ (sound at-if2.before.before.before.before) (some at-if2)))

@@ -1,0 +1,40 @@
+-- `expanded::run::gather` meets its contract: each arm is the one that the definition picks. Assumes nothing.
+use mathlib.Core.Path.{◌≡◌, ap, ◌∙◌}
+use Prim.Native.Nat.{◌-◌}
+use native.Mathlib.Omega.{arith}
+use lib.ListN.{length}
+use Rattle.octets.proofs.Picks.{yes, no}
+use Rattle.command.specs.Outcomes.{word_of, data_of, data_count}
+use Rattle.command.proofs.Outgoing.{data_length_lem}
+use Rattle.step.specs.Limits.{rapdu_size}
+use Rattle.expanded.specs.Expanded.{rapdu, gathered_in}
+use Rattle.expanded.proofs.Written.{rapdu-length}
+use Rattle.expanded.proofs.run.gather.Goals as goal
+use Rattle.expanded.proofs.run.gather.Lts as places
+
+-- where it starts, from where the R-APDU was written
+abbrev start : places.After-put_rapdu-end → places.Start
+start c = c.before.before.before.before.before
+
+-- the bytes of the R-APDU
+sized : (c : places.After-put_rapdu-end) → let a = c.args in length (rapdu (data_of a.o a.files.now a.waiting.now) (word_of a.o)) ≡ rapdu_size (data_count a.o)
+sized c =
+    let s = start c in
+    let a = s.args in
+    rapdu-length (data_of a.o a.files.now a.waiting.now) _ ∙ ap rapdu_size (data_length_lem a.o a.files.now a.waiting.now s.pre.0 s.pre.1)
+
+pub returns-then-counts : goal.returns-then-counts
+unfolding gathered_in
+returns-then-counts c =
+    let at-put = c.before.before.before in
+    let put = at-put.put_rapdu-end in
+    (put.ensures.0, sized at-put, yes at-put.args.counts _ c.if-counts.true (λ i. record { kept = put.ensures.1 i; last = 0 }))
+
+pub returns : goal.returns
+unfolding gathered_in
+returns c =
+    let at-put = c.before.before.before in
+    let put = at-put.put_rapdu-end in
+    let a = at-put.args in
+    let n : put.result - a.kept ≡ rapdu_size (data_count a.o) = omega arith in
+    (put.ensures.0, sized at-put, no a.counts _ c.if-counts.false (λ i. record { kept = a.kept; last = n i }))

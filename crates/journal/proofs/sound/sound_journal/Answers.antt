@@ -1,0 +1,115 @@
+-- `journal::sound::sound_journal` meets its contract, test by test.
+-- The definition compares the head with the bytes that it should be, the code asks field by field; for a journal of the right
+-- length both are the same tests joined by and (`journal_test`). So an early return shows the one test that is false, and at the
+-- last return the tests before are known to hold and `entries_sound` gives the rest. The points of the walk are the reading of the
+-- head and what each test leaves (`at_else2`, `at_else3`, `Else4`); `used-inside` is the bound that the later calls ask for.
+-- Assumes nothing.
+use mathlib.Core.Path.{◌≡◌, ◌∙◌}
+use mathlib.Core.Bool.{and-false}
+use mathlib.Core.List.{List}
+use Prim.Native.Nat.{ℕ, ◌+◌, ◌≤◌}
+use native.Mathlib.Omega.{arith}
+use borrow.Author.Tests.{eq-eqb, ne_eqb, le-leb, lt-leb}
+use borrow.Author.Rules.{rules}
+use lib.ListN.{length}
+use Rattle.octets.proofs.Picks.{told-false, told-true}
+use Rattle.journal.specs.Entries.{head_size, head_of, used_bytes, scripts_on_trial, flag_of, room}
+use Rattle.journal.specs.Sound.{most_scripts, sound_journal}
+use Rattle.journal.proofs.Pushed.{own_used, own_scripts, own_flag}
+use Rattle.journal.proofs.Tested.{journal_tests, journal_short_lem, journal_test, rest_test, entries_test}
+use Rattle.std.proofs.lemmas.Bool.{not_from_true, not_from_false}
+use Rattle.journal.proofs.sound.sound_journal.Goals as goal
+use Rattle.journal.proofs.sound.sound_journal.Lts as places
+
+pub returns-then-journal-ne-JOURNAL_LENGTH : goal.returns-then-journal-ne-JOURNAL_LENGTH
+returns-then-journal-ne-JOURNAL_LENGTH c = let a = c.args in journal_short_lem a.table.now a.files.now a.journal.now c.if-journal-ne-JOURNAL_LENGTH.true
+
+-- what is known once the head is read
+module _ (k : places.After-head_of-head) where
+  abbrev known : places.After-shared_slice_known-3-1
+  known = k.before.before
+
+  abbrev table : List ℕ
+  table = known.before.before.before.args.table.now
+
+  abbrev files : List ℕ
+  files = known.before.before.before.args.files.now
+
+  abbrev journal : List ℕ
+  journal = known.before.before.before.args.journal.now
+
+  tests : sound_journal table files journal ≡ journal_tests table files journal
+  tests = journal_test table files journal (omega (arith, k.before.if1.left)) (λ i. (known.shared-slice-known3.given i).fits)
+
+  own : k.head_of.result ≡ head_of journal
+  own = k.head_of.ensures.0
+
+pub returns-then-head-ne0 : goal.returns-then-head-ne0
+returns-then-head-ne0 c =
+    let k = c.before.before in
+    rw (tests k, ne_eqb (flag_of (journal k)) 0 (λ z. c.if-head-ne0.true (own_flag (journal k) (own k) ∙ z)))
+
+pub returns-then-room_of-used : goal.returns-then-room_of-used
+returns-then-room_of-used c =
+    let at-room-of = c.before in
+    let k = at-room-of.before.before.before in
+    rw (tests k, lt-leb (used_bytes (journal k)) (room (journal k)) (omega (arith, own_used (journal k) (own k), at-room-of.room_of.ensures, c.if-room_of-used.true))) (simp and-false)
+
+pub returns-then-scripts-gt-MOST_SCRIPTS : goal.returns-then-scripts-gt-MOST_SCRIPTS
+returns-then-scripts-gt-MOST_SCRIPTS c =
+    let at_wide = c.before in
+    let k = at_wide.before.before.before.before.before in
+    rw (tests k, lt-leb (scripts_on_trial (journal k)) most_scripts (omega (arith, own_scripts (journal k) (own k), at_wide.wide-scripts.ensures.0, c.if-scripts-gt-MOST_SCRIPTS.true))) (simp and-false)
+
+-- past the first four tests
+module _ (o : places.Else-scripts-gt-MOST_SCRIPTS) where
+  abbrev at_else3 : places.Else-room_of-used
+  at_else3 = o.before.before
+
+  abbrev at_else2 : places.Else-head-ne0
+  at_else2 = at_else3.before.before
+
+  abbrev at_head_of : places.After-head_of-head
+  at_head_of = at_else2.before.before
+
+  used-inside : head_size + at_head_of.head_of.result.used ≤ length (journal at_head_of)
+  unfolding room
+  used-inside = omega (arith, at_else3.before.room_of.ensures, at_else3.if3.left, at_head_of.before.if1.left)
+
+  flag_zero : flag_of (journal at_head_of) ≡ 0
+  flag_zero = omega (arith, own_flag (journal at_head_of) (own at_head_of), at_else2.if2.left)
+
+  used-few : used_bytes (journal at_head_of) ≤ room (journal at_head_of)
+  used-few = omega (arith, own_used (journal at_head_of) (own at_head_of), at_else3.before.room_of.ensures, at_else3.if3.left)
+
+  scripts_told : o.before.wide.result ≡ scripts_on_trial (journal at_head_of)
+  scripts_told = o.before.wide.ensures.0 ∙ own_scripts (journal at_head_of) (own at_head_of)
+
+  scripts_few : scripts_on_trial (journal at_head_of) ≤ most_scripts
+  scripts_few = omega (arith, scripts_told, o.if4.left)
+
+pub slice_bounds-all_zero-count : goal.slice_bounds-all_zero-count
+slice_bounds-all_zero-count c = let h = used-inside c in search rules
+
+pub slice_bounds-all_zero-start : goal.slice_bounds-all_zero-start
+slice_bounds-all_zero-start c = let h = used-inside c in search rules
+
+pub returns-then-not-all_zero : goal.returns-then-not-all_zero
+returns-then-not-all_zero c =
+    let at-all-zero = c.before in
+    let k = at_head_of at-all-zero.before.before in
+    rw (tests k, told-false (rest_test (journal k) (own_used (journal k) (own k)) at-all-zero.all_zero.ensures) (not_from_false _ c.if-not-all_zero.true)) (simp and-false)
+
+pub entries_sound-requires : goal.entries_sound-requires
+entries_sound-requires c = used-inside c.before.before.before
+
+pub returns : goal.returns
+returns c =
+    let at-else5 = c.before in
+    let at-all-zero = at-else5.before in
+    let at-else4 = at-all-zero.before.before in
+    let k = at_head_of at-else4 in
+    let j = journal k in
+    let used = own_used j (own k) in
+    rw (tests k, eq-eqb (flag_of j) 0 (flag_zero at-else4), le-leb (used_bytes j) (room j) (used-few at-else4), le-leb (scripts_on_trial j) most_scripts (scripts_few at-else4), told-true (rest_test j used at-all-zero.all_zero.ensures) (not_from_true _ at-else5.if-not-all_zero.false))
+    (entries_test (table k) (files k) j used (scripts_told at-else4) c.entries_sound.ensures)

@@ -1,0 +1,18 @@
+-- `journal::write::mark` meets its contract: a mark has no old bytes. Assumes nothing.
+use native.Mathlib.Omega.{arith}
+use Rattle.journal.proofs.Pushed.{own_used, own_scripts}
+use Rattle.journal.proofs.Steps.{mark_steps}
+use Rattle.journal.proofs.write.mark.Goals as goal
+
+pub overflow_add-next : goal.overflow_add-next
+overflow_add-next c = omega (arith, own_scripts _ c.head_of-head.ensures.0, c.requires.1)
+
+pub close-requires : goal.close-requires
+close-requires c = omega (arith, own_used _ c.head_of-head.ensures.0, c.requires.0)
+
+pub returns : goal.returns
+returns c =
+    let at-close = c.before.before in
+    let at_head_of = at-close.before.before.before in
+    let s = at_head_of.before.before.before in
+    mark_steps s.args.journal.now at-head-of.head_of-head.ensures.0 s.requires.0 at-close.close.ensures.0

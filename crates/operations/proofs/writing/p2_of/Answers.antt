@@ -1,0 +1,16 @@
+-- `operations::writing::p2_of` meets its contract: each arm is the one that the definition picks. Assumes nothing.
+use Rattle.octets.proofs.Picks.{choices}
+use Rattle.operations.specs.Scripts.{p2_of}
+use Rattle.operations.proofs.writing.p2_of.Goals as goal
+
+pub returns-then-o-eq-SELECT : goal.returns-then-o-eq-SELECT
+unfolding p2_of
+returns-then-o-eq-SELECT c = search choices
+
+pub returns-then-is_binary : goal.returns-then-is_binary
+unfolding p2_of
+returns-then-is_binary c = search choices
+
+pub returns : goal.returns
+unfolding p2_of
+returns c = search choices

@@ -1,0 +1,72 @@
+-- `plan::does::search_records` meets its contract: what is found is made, and the first becomes current.
+-- `search` puts the numbers that it finds at the start of the made bytes and returns how many there are. None: the plan ends with
+-- 6282 and no data (`searched-none`). Some: the first of them, read back from the made bytes, becomes the record number
+-- (`searched-some`). The code goes by the row and the file memory, the definition by what it sees of the file; `as_named` says that
+-- they find the same. The points of the walk are the calls of `record_of` and `search`, the test for none, and the read of the
+-- first number. Assumes nothing.
+use mathlib.Core.Path.{◌≡◌, sym, ap, ◌∙◌}
+use mathlib.Core.List.{List, []}
+use Prim.Native.Nat.{ℕ, ◌≤◌}
+use native.Mathlib.Omega.{arith}
+use lib.ListN.{length}
+use Rattle.octets.specs.Bytes.{byte, part}
+use Rattle.plan.specs.Files.{File, found_records}
+use Rattle.command.specs.Outcomes.{normal}
+use Rattle.plan.specs.Ends.{produced}
+use Rattle.plan.specs.Plans.{named_by, searched}
+use Rattle.plan.specs.Plans as plans
+use Rattle.plan.specs.Promised.{writes_of}
+use Rattle.plan.proofs.Made.{write-short, searched-none, searched-some}
+use Rattle.plan.proofs.does.search_records.Goals as goal
+use Rattle.plan.proofs.does.search_records.Lts as places
+
+-- what is found, as the code names it and as the definition does
+module _ (c : places.After-search-n) where
+  abbrev start : places.Start
+  start = let at-record-of = c.before.before.before in at-record-of.before.before.before.before
+
+  abbrev found : List ℕ
+  found =
+      let a = start.args in
+      found_records a.r (part a.files.now a.r.start a.r.size) a.c.p2 a.«data».now c.record_of-number.result
+
+  as_named : (f : File) → f.row ≡ start.args.r → f.content ≡ part start.args.files.now start.args.r.start start.args.r.size → searched start.args.format start.args.s found ≡ plans.search start.args.format start.args.c start.args.«data».now start.args.s f
+  unfolding plans.search
+  as_named f row content =
+      let a = start.args in
+      λ i. searched a.format a.s (found_records (sym row i) (sym content i) a.c.p2 a.«data».now ((c.record_of-number.ensures ∙ ap (named_by a.c a.s.record_number) (sym row)) i))
+
+pub returns-then-n-eq0 : goal.returns-then-n-eq0
+unfolding writes_of
+returns-then-n-eq0 c =
+    let k = c.before.before.before.before in
+    let a = (start k).args in (
+      λ f row content.
+          c.done.ensures.0 a.«data».now _
+          ∙ searched-none a.format a.s (found k) (sym k.search-n.ensures.1 ∙ c.if-n-eq0.true)
+          ∙ as_named k f row content,
+      c.done.ensures.1,
+    )
+
+pub produced-requires : goal.produced-requires
+produced-requires c =
+    let k = c.before.before.before.before.before.before in
+    let l : length (found k) ≤ length (start k).args.made.now = write-short _ _ (sym (ap length k.search-n.ensures.0) ∙ k.search-n.auto.1.1.1.1.1.0) in
+    (omega (arith, k.search-n.ensures.1, (start k).requires.1.made), omega arith)
+
+pub returns : goal.returns
+unfolding writes_of
+returns c =
+    let at_wide = c.before.before in
+    let at-else1 = at_wide.before.before in
+    let at-search = at-else1.before.before.before in
+    let k = at-search in
+    let a = (start k).args in
+    let s = k.search-n.ensures in (
+      λ f row content.
+          c.produced.ensures.0 a.«data».now _ (found k) a.made.now s.0 s.1
+          ∙ (λ i. produced a.format (c.at_record-next.ensures i) normal (found k) [])
+          ∙ searched-some a.format a.s a.made.now (found k) _ (λ z. at-else1.if-n-eq0.false (s.1 ∙ z)) (at_wide.wide.ensures.0 ∙ ap (λ (l : List ℕ). byte l 0) s.0)
+          ∙ as_named k f row content,
+      c.produced.ensures.1,
+    )

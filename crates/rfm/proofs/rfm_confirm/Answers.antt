@@ -1,0 +1,7 @@
+-- `rfm::rfm_confirm` meets its contract. Assumes nothing.
+use Rattle.rfm.proofs.Crossing.{crossing}
+use Rattle.rfm.proofs.rfm_confirm.Goals as goal
+
+pub returns : goal.returns
+returns c =
+    crossing c.confirm.result c.confirm.ensures.1 _ _ _ _ c.confirm.ensures.0 c.packed_answer.ensures

@@ -1,0 +1,69 @@
+-- `step::run_command` meets its contract: what was decided is the plan under the 1,000-byte rule, and what was carried out is that plan. Assumes nothing.
+use mathlib.Core.Path.{◌≡◌, sym, ap, subst, ◌∙◌}
+use native.Mathlib.Omega.{arith}
+use lib.ListN.{length}
+use Rattle.card.specs.Row.{Card, lent}
+use Rattle.journal.specs.Promised.{HasRoom}
+use Rattle.journal.specs.Sound.{journal_length}
+use Rattle.journal.specs.Changes.{cost}
+use Rattle.journal.proofs.Parts.{card_parts}
+use Rattle.plan.specs.Ends.{Plan}
+use Rattle.plan.specs.Promised.{plan_of}
+use Rattle.step.specs.Steps.{carried_out}
+use Rattle.step.proofs.Limited.{decided-few}
+use borrow.Author.Rules.{rules}
+use Rattle.step.proofs.run_command.Goals as goal
+use Rattle.step.proofs.run_command.Lts as places
+
+-- where the command starts, from where it was decided
+abbrev start : places.After-decide-d → places.Start
+start c =
+    let at-args = c.before.before.before.before in
+    let at-slices = at-args.before.before.before in
+    at-slices.before.before.before.before
+
+-- the card
+abbrev card_of : places.Start → Card
+card_of s = lent s.args.table.now s.args.files.now s.args.journal.now
+
+pub decide-d-requires : goal.decide-d-requires
+decide-d-requires c =
+    (c.requires.0.ready, c.requires.0.made)
+
+pub limited-requires : goal.limited-requires
+limited-requires c =
+    let at-decide = c.before.before in
+    let s = start at-decide in
+    let d = at-decide.decide-d in
+    (s.pre.0.kept, decided-few s.args.format s.args.domain s.args.c s.args.«data».now s.args.s (card_of s) s.pre.0.ready _ d.result d.ensures)
+
+-- where the command was decided, from where it was held to the 1,000 bytes
+abbrev decided : places.After-limited → places.After-decide-d
+decided c = c.before.before.before
+
+pub carry_out-requires : goal.carry_out-requires
+unfolding plan_of
+carry_out-requires c =
+    let at-limited = c.before.before.before.before.before in
+    let s = start (decided at-limited) in
+    let d = at-limited.limited.ensures _ _ _ _ at-limited.decide-d.ensures in
+    let whole : length s.args.journal.now ≡ journal_length = (card_parts (card_of s) s.pre.0.ready.sound).size in (
+      record {
+        fits = d.fits;
+        made = search rules;
+        short = omega arith;
+        left = subst (λ (p : Plan). HasRoom s.args.journal.now (cost p.writes)) (sym d.same) d.journal;
+      },
+      s.pre.1,
+      s.pre.2,
+    )
+
+pub returns : goal.returns
+returns c =
+    let at_table = c.before.before.before.before.before in
+    let at-carry-out = at_table.before.before.before in
+    let at-limited = at-carry-out.before.before.before.before.before.before in
+    let s = start (decided at-limited) in
+    let d = at-limited.limited.ensures _ _ _ _ at-limited.decide-d.ensures in
+    let done = at-carry-out.carry_out.ensures in
+    (done.0 ∙ ap (λ (p : Plan). carried_out p s.args.waiting.now (card_of s)) d.same, done.1)

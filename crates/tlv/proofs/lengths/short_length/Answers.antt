@@ -1,0 +1,25 @@
+-- `tlv::lengths::short_length` meets its contract: each arm is the one that the definition picks. Assumes nothing.
+use Prim.Native.Nat.{◌+◌, ◌≤◌, ◌<◌}
+use native.Mathlib.Omega.{arith}
+use Rattle.octets.proofs.Picks.{picks}
+use Rattle.tlv.specs.Lengths.{short_length}
+use Rattle.tlv.proofs.lengths.short_length.Goals as goal
+use Rattle.tlv.proofs.lengths.short_length.Lts as places
+
+none : (t : places.Then-end-at-lt1) → t.before.before.args.end < t.before.before.args.at + 1
+none t = omega arith
+
+there : (o : places.Else-end-at-lt1) → o.before.before.args.at + 1 ≤ o.before.before.args.end
+there o = omega arith
+
+pub returns-then-end-at-lt1 : goal.returns-then-end-at-lt1
+unfolding short_length
+returns-then-end-at-lt1 c = search (picks, none c)
+
+pub returns-then-n-lt128 : goal.returns-then-n-lt128
+unfolding short_length
+returns-then-n-lt128 c = rw (← c.wide-n.ensures.0) (search (picks, there c.before.before.before))
+
+pub returns : goal.returns
+unfolding short_length
+returns c = rw (← c.wide-n.ensures.0) (search (picks, there c.before.before.before))
