@@ -8,10 +8,15 @@ use Rattle.answers.specs.Promised.{AnsweredFits}
 use Rattle.answers.proofs.Fits.{answer-told}
 use Rattle.octets.proofs.Picks.{told}
 use Rattle.answers.proofs.read_answer.Goals as goal
-use Rattle.answers.proofs.read_answer.Lts as places
+use Rattle.answers.proofs.read_answer.Lts as lts
+use Rattle.answers.proofs.read_answer.Reads as reads
+use Rattle.answers.proofs.read_answer.Tie as tie
+
+abbrev After-shared_slice_known : Type 0
+After-shared_slice_known = lts.After-shared_slice_known tie.the-claims reads.Pre reads.Post
 
 -- what is promised of what the answer comes to
-told : (k : places.After-shared_slice_known-1) {r : Answered} → r ≡ read_answer k.before.args.format k.before.args.answer.now
+told : (k : After-shared_slice_known) {r : Answered} → r ≡ read_answer k.before.args.format k.before.args.answer.now
     → (r ≡ read_answer k.before.args.format k.before.args.answer.now) × AnsweredFits (length k.before.args.answer.now) r
 told k = answer-told k.before.args.answer.now (λ i. (k.shared-slice-known.given i).fits) k.before.args.format
 

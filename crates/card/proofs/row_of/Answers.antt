@@ -9,43 +9,33 @@ use Rattle.card.proofs.row_of.Goals as goal
 pub returns : goal.returns
 unfolding row
 returns c =
-    let at-num-at4 = c.before.before in
-    let at-wide7 = at-num-at4.before in
-    let at-wide6 = at-wide7.before.before in
-    let at-wide5 = at-wide6.before.before in
-    let at-wide4 = at-wide5.before.before in
-    let at_wide3 = at-wide4.before.before in
-    let at-num-at3 = at_wide3.before.before in
-    let at-num-at2 = at-num-at3.before in
-    let at_wide2 = at-num-at2.before in
-    let at_wide = at_wide2.before.before in
     (
       λ i. record {
-        identifier = at_wide.num_at.ensures.0 i;
-        parent = at_wide.wide.ensures.0 i;
-        kind = at-wide2.wide-2.ensures.0 i;
-        start = at-num-at2.num_at-2.ensures.0 i;
-        size = at-num-at3.num_at-3.ensures.0 i;
-        record_length = at-wide3.wide-3.ensures.0 i;
-        newest = at-wide4.wide-4.ensures.0 i;
-        state = at-wide5.wide-5.ensures.0 i;
-        eleven = at-wide6.wide-6.ensures.0 i;
-        never = at-wide7.wide-7.ensures.0 i;
-        thirteen = at-num-at4.num_at-4.ensures.0 i;
+        identifier = c.num_at.ensures.0 i;
+        parent = c.wide.ensures.0 i;
+        kind = c.wide-2.ensures.0 i;
+        start = c.num_at-2.ensures.0 i;
+        size = c.num_at-3.ensures.0 i;
+        record_length = c.wide-3.ensures.0 i;
+        newest = c.wide-4.ensures.0 i;
+        state = c.wide-5.ensures.0 i;
+        eleven = c.wide-6.ensures.0 i;
+        never = c.wide-7.ensures.0 i;
+        thirteen = c.num_at-4.ensures.0 i;
         fifteen = c.wide-8.ensures.0 i;
       },
       record {
-        identifier = at_wide.num_at.ensures.1;
-        parent = at_wide.wide.ensures.1;
-        kind = at-wide2.wide-2.ensures.1;
-        start = at-num-at2.num_at-2.ensures.1;
-        size = at-num-at3.num_at-3.ensures.1;
-        record_length = at-wide3.wide-3.ensures.1;
-        newest = at-wide4.wide-4.ensures.1;
-        state = at-wide5.wide-5.ensures.1;
-        eleven = at-wide6.wide-6.ensures.1;
-        never = at-wide7.wide-7.ensures.1;
-        thirteen = at-num-at4.num_at-4.ensures.1;
+        identifier = c.num_at.ensures.1;
+        parent = c.wide.ensures.1;
+        kind = c.wide-2.ensures.1;
+        start = c.num_at-2.ensures.1;
+        size = c.num_at-3.ensures.1;
+        record_length = c.wide-3.ensures.1;
+        newest = c.wide-4.ensures.1;
+        state = c.wide-5.ensures.1;
+        eleven = c.wide-6.ensures.1;
+        never = c.wide-7.ensures.1;
+        thirteen = c.num_at-4.ensures.1;
         fifteen = c.wide-8.ensures.1;
       },
     )

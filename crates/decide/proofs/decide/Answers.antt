@@ -34,49 +34,81 @@ use Rattle.decide.proofs.Plans.{form_fails, behind, behind-select, behind-respon
 use Rattle.decide.proofs.Passed.{able, own_formal, journal_parts, journal-inside, WithRoom, room-decided}
 use Rattle.octets.proofs.Picks.{told}
 use Rattle.decide.proofs.decide.Goals as goal
-use Rattle.decide.proofs.decide.Lts as places
+use Rattle.decide.proofs.decide.Lts as lts
+use Rattle.decide.proofs.decide.Reads as reads
+use Rattle.decide.proofs.decide.Tie as tie
+
+abbrev Start : Type 0
+Start = lts.Start tie.the-claims reads.Pre reads.Post
+
+abbrev After-slice_known : Type 0
+After-slice_known = lts.After-slice_known tie.the-claims reads.Pre reads.Post
+
+abbrev After-room_of : Type 0
+After-room_of = lts.After-room_of tie.the-claims reads.Pre reads.Post
+
+abbrev Else3 : Type 0
+Else3 = lts.Else3 tie.the-claims reads.Pre reads.Post
+
+abbrev Else4 : Type 0
+Else4 = lts.Else4 tie.the-claims reads.Pre reads.Post
+
+abbrev Else5 : Type 0
+Else5 = lts.Else5 tie.the-claims reads.Pre reads.Post
+
+abbrev Else6 : Type 0
+Else6 = lts.Else6 tie.the-claims reads.Pre reads.Post
+
+abbrev Else7 : Type 0
+Else7 = lts.Else7 tie.the-claims reads.Pre reads.Post
+
+abbrev Else8 : Type 0
+Else8 = lts.Else8 tie.the-claims reads.Pre reads.Post
+
+abbrev Else9 : Type 0
+Else9 = lts.Else9 tie.the-claims reads.Pre reads.Post
 
 -- the card, and the situation
-abbrev card_of : places.Start → Card
+abbrev card_of : Start → Card
 card_of s = lent s.args.table.now s.args.files.now s.args.journal.now
 
-abbrev whole : places.Start → Situation
+abbrev whole : Start → Situation
 whole s = situation s.args.format s.args.domain s.args.c s.args.«data».now s.args.s (card_of s)
 
 -- the points of the walk, each from the one before: all memories are known, the journal is read, an instruction is not the one asked for
-abbrev start : places.After-slice_known-1 → places.Start
+abbrev start : After-slice_known → Start
 start c = c.before.before.before.before.before
 
-abbrev known : places.After-room_of-room → places.After-slice_known-1
+abbrev known : After-room_of → After-slice_known
 known c = c.before.before.before.before
 
-abbrev not-read_binary : places.Else-i-eq-READ_BINARY → places.After-room_of-room
+abbrev not-read_binary : Else3 → After-room_of
 not-read_binary c = c.before
 
-abbrev not-update_binary : places.Else-i-eq-UPDATE_BINARY → places.After-room_of-room
+abbrev not-update_binary : Else4 → After-room_of
 not-update_binary c = not-read_binary c.before
 
-abbrev not-read_record : places.Else-i-eq-READ_RECORD → places.After-room_of-room
+abbrev not-read_record : Else5 → After-room_of
 not-read_record c = not-update_binary c.before
 
-abbrev not-update_record : places.Else-i-eq-UPDATE_RECORD → places.After-room_of-room
+abbrev not-update_record : Else6 → After-room_of
 not-update_record c = not-read_record c.before
 
-abbrev not-search : places.Else-i-eq-SEARCH → places.After-room_of-room
+abbrev not-search : Else7 → After-room_of
 not-search c = not-update_record c.before
 
-abbrev not-increase : places.Else-i-eq-INCREASE → places.After-room_of-room
+abbrev not-increase : Else8 → After-room_of
 not-increase c = not-search c.before
 
-abbrev not-deactivate : places.Else-i-eq-DEACTIVATE → places.After-room_of-room
+abbrev not-deactivate : Else9 → After-room_of
 not-deactivate c = not-increase c.before
 
 -- what writes nothing is decided
-nothing : (s : places.Start) {bytes : List ℕ} {d : Decision} → plan_of d s.args.«data».now bytes ≡ planned (whole s) → d.change ≡ Nothing → Decided (card_of s) s.args.«data».now bytes (planned (whole s)) d
+nothing : (s : Start) {bytes : List ℕ} {d : Decision} → plan_of d s.args.«data».now bytes ≡ planned (whole s) → d.change ≡ Nothing → Decided (card_of s) s.args.«data».now bytes (planned (whole s)) d
 nothing s {bytes} {d} = nothing-decided (card_of s) s.args.«data».now bytes (planned (whole s)) d (journal-inside s.requires.0)
 
 -- what `formal_check` says: a check fails, or the checks behind the formal ones decide
-module _ (s : places.Start) {came : Checked} (told : FirstOf formal_checks (Formal s.args.c (length s.args.«data».now) s.args.domain) came) where
+module _ (s : Start) {came : Checked} (told : FirstOf formal_checks (Formal s.args.c (length s.args.«data».now) s.args.domain) came) where
   own : came ≡ first_failing (whole s) formal_checks
   own = told (whole s) (own_formal s.args.format s.args.domain s.args.c s.args.«data».now s.args.s (card_of s))
 
@@ -93,7 +125,7 @@ returns-in-Failed c =
     let at-formal = at-k.before.before in
     form_failed (start at-formal.before.before) at-formal.formal_check.ensures at-k.in-Failed.is c.failed.ensures
 
-abbrev selecting : places.After-decide_select-arg-1 → places.Then-i-eq-SELECT
+abbrev selecting : goal.After-decide_select-arg-1 → goal.Then-i-eq-SELECT
 selecting c = c.before.before.before.before
 
 pub decide_select-requires : goal.decide_select-requires
@@ -152,8 +184,8 @@ head_of-used-requires c = let h = (journal_parts (start c.before.before).require
 pub room_of-room-requires : goal.room_of-room-requires
 room_of-room-requires c = let h = (journal_parts (start c.before.before.before).requires.0).size in omega arith
 
-module _ (c : places.After-room_of-room) where
-  abbrev origin : places.Start
+module _ (c : After-room_of) where
+  abbrev origin : Start
   origin = start (known c)
 
   roomy : (change : Change) → Fits (length origin.args.table.now) (length origin.args.files.now) (length origin.args.«data».now) change → WithRoomAsks change (length origin.args.«data».now) c.head_of-used.result.used c.room_of-room.result

@@ -21,7 +21,18 @@ use Rattle.decide.proofs.Plans.{path_some, select_wrong, select_lost, select-fou
 use Rattle.octets.proofs.Picks.{told}
 use Rattle.std.proofs.lemmas.Bool.{not_from_true}
 use Rattle.decide.proofs.decide_select.Goals as goal
-use Rattle.decide.proofs.decide_select.Lts as places
+use Rattle.decide.proofs.decide_select.Lts as lts
+use Rattle.decide.proofs.decide_select.Reads as reads
+use Rattle.decide.proofs.decide_select.Tie as tie
+
+abbrev Else1 : Type 0
+Else1 = lts.Else1 tie.the-claims reads.Pre reads.Post
+
+abbrev Start : Type 0
+Start = lts.Start tie.the-claims reads.Pre reads.Post
+
+abbrev After-e : Type 0
+After-e = lts.After-e tie.the-claims reads.Pre reads.Post
 
 pub returns-then-not-path_length_fits : goal.returns-then-not-path_length_fits
 returns-then-not-path_length_fits c = (
@@ -32,8 +43,8 @@ returns-then-not-path_length_fits c = (
 )
 
 -- the data have a length that fits
-module _ (c : places.Else-not-path_length_fits) where
-  abbrev start : places.Start
+module _ (c : Else1) where
+  abbrev start : Start
   start = c.before.before.before.before.before
 
   fitting : path_length_fits start.args.c.p1 (length start.args.«data».now) ≡ true
@@ -57,11 +68,11 @@ returns-in_default c = (
 )
 
 -- an entry is found
-module _ (c : places.In-At-2) where
+module _ (c : After-e) where
   abbrev found : ℕ
   found = c.in-At.e
 
-  abbrev origin : places.Start
+  abbrev origin : Start
   origin = start c.before.before.before.before.before
 
   there : find origin.args.table.now origin.args.s.root origin.args.s.directory origin.args.c.p1 origin.args.«data».now ≡ Found.At found

@@ -16,15 +16,9 @@ returns-then-valid-c c = (λ «data» bytes. rw (ne_eqb _ _ c.if-valid-eq0.false
 pub returns-then-c-eq0 : goal.returns-then-c-eq0
 unfolding responded get_response pick
 returns-then-c-eq0 c =
-    let at-if3 = c.before in
-    let at_else2 = at-if3.before.before in
-    let at-else1 = at_else2.before.before in
-    (λ «data» bytes. rw (ne_eqb _ _ at-else1.if-valid-eq0.false, le-ltb _ _ at-else2.if-valid-c.false, eq-eqb _ _ at-if3.if-c-eq0.true) (c.waited.ensures.0 «data» bytes), c.waited.ensures.1)
+    (λ «data» bytes. rw (ne_eqb _ _ c.if-valid-eq0.false, le-ltb _ _ c.if-valid-c.false, eq-eqb _ _ c.if-c-eq0.true) (c.waited.ensures.0 «data» bytes), c.waited.ensures.1)
 
 pub returns : goal.returns
 unfolding responded get_response pick
 returns c =
-    let at_else3 = c.before in
-    let at_else2 = at_else3.before.before in
-    let at-else1 = at_else2.before.before in
-    (λ «data» bytes. rw (ne_eqb _ _ at-else1.if-valid-eq0.false, le-ltb _ _ at-else2.if-valid-c.false, ne_eqb _ _ at-else3.if-c-eq0.false) (c.waited-2.ensures.0 «data» bytes), c.waited-2.ensures.1)
+    (λ «data» bytes. rw (ne_eqb _ _ c.if-valid-eq0.false, le-ltb _ _ c.if-valid-c.false, ne_eqb _ _ c.if-c-eq0.false) (c.waited-2.ensures.0 «data» bytes), c.waited-2.ensures.1)

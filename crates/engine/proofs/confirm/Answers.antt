@@ -14,13 +14,24 @@ use Rattle.engine.specs.Calls.{gives, numbered}
 use Rattle.engine.proofs.Answers.{answers_number, confirm_unsound, confirm-done}
 use Rattle.octets.proofs.Picks.{told}
 use Rattle.engine.proofs.confirm.Goals as goal
-use Rattle.engine.proofs.confirm.Lts as places
+use Rattle.engine.proofs.confirm.Lts as lts
+use Rattle.engine.proofs.confirm.Reads as reads
+use Rattle.engine.proofs.confirm.Tie as tie
 
-abbrev card_of : places.Start → Card
+abbrev Start : Type 0
+Start = lts.Start tie.the-claims reads.Pre reads.Post
+
+abbrev After-sound_card : Type 0
+After-sound_card = lts.After-sound_card tie.the-claims reads.Pre reads.Post
+
+abbrev Else1 : Type 0
+Else1 = lts.Else1 tie.the-claims reads.Pre reads.Post
+
+abbrev card_of : Start → Card
 card_of s = lent s.args.table.now s.args.files.now s.args.journal.now
 
 -- where it starts, from where the card is looked at
-abbrev start : places.After-sound_card → places.Start
+abbrev start : After-sound_card → Start
 start c = c.before.before.before.before.before
 
 pub returns-then-not-sound_card : goal.returns-then-not-sound_card
@@ -29,8 +40,8 @@ returns-then-not-sound_card c =
     (sym (confirm_unsound _ (told c.sound_card.ensures c.if-not-sound_card.true)))
 
 -- past the test, the card is sound
-sound : (o : places.Else-not-sound_card) → sound_card (card_of (start o.before)) ≡ true
-sound o = told-true o.before.sound-card.ensures o.if1.false
+sound : (o : Else1) → sound_card (card_of (start o.before)) ≡ true
+sound o = told-true o.before.sound_card.ensures o.if1.false
 
 pub confirm-requires : goal.confirm-requires
 unfolding room

@@ -15,12 +15,20 @@ use Rattle.engine.proofs.Starts.{Says, says}
 use Rattle.engine.proofs.Answers.{answers_number}
 use Rattle.engine.proofs.Accepted.{may_start, compact-run, definite-run, indefinite-run, refused-run}
 use Rattle.engine.proofs.run.Goals as goal
-use Rattle.engine.proofs.run.Lts as places
+use Rattle.engine.proofs.run.Lts as lts
+use Rattle.engine.proofs.run.Reads as reads
+use Rattle.engine.proofs.run.Tie as tie
 
-abbrev card_of : places.Start → Card
+abbrev Start : Type 0
+Start = lts.Start tie.the-claims reads.Pre reads.Post
+
+abbrev After-start_of : Type 0
+After-start_of = lts.After-start_of tie.the-claims reads.Pre reads.Post
+
+abbrev card_of : Start → Card
 card_of s = lent s.args.table.now s.args.files.now s.args.journal.now
 
-abbrev arguments_of : places.Start → Arguments
+abbrev arguments_of : Start → Arguments
 arguments_of s =
     record {
       application = s.args.application;
@@ -31,17 +39,17 @@ arguments_of s =
     }
 
 -- where the domain is made wide, and where it starts, from where the run's start is known
-abbrev widened : places.After-start_of → places.After-wide-wide
+abbrev widened : After-start_of → goal.After-wide-wide
 widened k = k.before.before.before.before
 
-abbrev start : places.After-start_of → places.Start
+abbrev start : After-start_of → Start
 start k = let at-slices = (widened k).before in at-slices.before.before.before.before.before
 
 -- what the start says of the run, and that the value of its template lies in the script
-said : (k : places.After-start_of) {s : Start} → k.start_of_lem.result ≡ s → Says (card_of (start k)) (arguments_of (start k)) s
+said : (k : After-start_of) {s : Start} → k.start_of_lem.result ≡ s → Says (card_of (start k)) (arguments_of (start k)) s
 said k e = says _ _ (sym e ∙ k.start_of_lem.ensures.0 (start k).args.response.now (search rules))
 
-lies : (k : places.After-start_of) {s : Start} → k.start_of_lem.result ≡ s → StartFits (length (start k).args.script.now) s
+lies : (k : After-start_of) {s : Start} → k.start_of_lem.result ≡ s → StartFits (length (start k).args.script.now) s
 lies k e = subst (StartFits (length (start k).args.script.now)) e k.start_of_lem.ensures.1
 
 pub run_compact-requires : goal.run_compact-requires
@@ -72,7 +80,7 @@ pub returns-in-Refused : goal.returns-in-Refused
 returns-in-Refused c =
     let at_number = c.before.before in
     let at-start = at_number.before.before in
-    let s = said at-start at-number.in-Refused.is in
+    let s = said at-start at_number.in-Refused.is in
     let few = six-most (card_of (start at-start)) (arguments_of (start at-start)) in
     answers_number _ (omega (arith, s.0, few)) c.numbered.ensures _ _ (refused-run _ _ _ s.0 (λ z. omega (arith, s.1)))
 

@@ -17,28 +17,42 @@ use Rattle.engine.specs.Calls.{gives, numbered}
 use Rattle.engine.proofs.Answers.{answers_number, back_unsound, back_none, back_done}
 use Rattle.octets.proofs.Picks.{told}
 use Rattle.engine.proofs.take_back.Goals as goal
-use Rattle.engine.proofs.take_back.Lts as places
+use Rattle.engine.proofs.take_back.Lts as lts
+use Rattle.engine.proofs.take_back.Reads as reads
+use Rattle.engine.proofs.take_back.Tie as tie
 
-abbrev card_of : places.Start → Card
+abbrev Start : Type 0
+Start = lts.Start tie.the-claims reads.Pre reads.Post
+
+abbrev After-sound_card : Type 0
+After-sound_card = lts.After-sound_card tie.the-claims reads.Pre reads.Post
+
+abbrev After-head_of : Type 0
+After-head_of = lts.After-head_of tie.the-claims reads.Pre reads.Post
+
+abbrev Else2 : Type 0
+Else2 = lts.Else2 tie.the-claims reads.Pre reads.Post
+
+abbrev card_of : Start → Card
 card_of s = lent s.args.table.now s.args.files.now s.args.journal.now
 
-abbrev start : places.After-sound_card → places.Start
+abbrev start : After-sound_card → Start
 start k = let args = k.before.before.before in args.before.before.before.before
 
 -- past the first test the card is sound
-module _ (o : places.Else-not-sound_card) where
+module _ (o : goal.Else-not-sound_card) where
   abbrev card : Card
   card = card_of (start o.before)
 
   sound : sound_card card ≡ true
-  sound = told-true o.before.sound-card.ensures o.if1.left
+  sound = told-true o.before.sound_card.ensures o.if1.left
 
 -- what the head that is read says of the scripts on trial
-scripts : (k : places.After-head_of) → k.head_of.result.scripts ≡ scripts_on_trial (card k.before.before).journal
+scripts : (k : After-head_of) → k.head_of.result.scripts ≡ scripts_on_trial (card k.before.before).journal
 scripts k = own_scripts (card k.before.before).journal k.head_of.ensures.0
 
 -- past the second there is a script on trial
-some : (o : places.Else-head_of-eq0) → scripts_on_trial (card o.before.before.before.before).journal ≡ 0 → ⊥
+some : (o : Else2) → scripts_on_trial (card o.before.before.before.before).journal ≡ 0 → ⊥
 some o none = o.if2.false (scripts o.before.before ∙ none)
 
 pub returns-then-not-sound_card : goal.returns-then-not-sound_card

@@ -10,7 +10,18 @@ use Rattle.operations.specs.Sizes.{all_size, script_size}
 use Rattle.operations.proofs.Outcomes.{refusal-told, no_list, not_carried, too_long, no_room, is-built}
 use Rattle.octets.proofs.Picks.{told}
 use Rattle.operations.proofs.build.Goals as goal
-use Rattle.operations.proofs.build.Lts as places
+use Rattle.operations.proofs.build.Lts as lts
+use Rattle.operations.proofs.build.Reads as reads
+use Rattle.operations.proofs.build.Tie as tie
+
+abbrev Start : Type 0
+Start = lts.Start tie.the-claims reads.Pre reads.Post
+
+abbrev After-measure : Type 0
+After-measure = lts.After-measure tie.the-claims reads.Pre reads.Post
+
+abbrev After-script_size : Type 0
+After-script_size = lts.After-script_size tie.the-claims reads.Pre reads.Post
 
 pub returns-then-not-is_list : goal.returns-then-not-is_list
 returns-then-not-is_list c =
@@ -18,30 +29,30 @@ returns-then-not-is_list c =
     (no_list _ _ _ _ (told c.is_list.ensures c.if-not-is_list.true))
 
 -- the points of the walk, back to the start
-abbrev from_list : places.Else-not-is_list → places.Start
+abbrev from_list : goal.Else-not-is_list → Start
 from_list c = c.before.before.before.before.before
 
-abbrev from-carried : places.Else-all-ne0 → places.After-measure-all
+abbrev from-carried : goal.Else-all-ne0 → After-measure
 from-carried c = c.before.before
 
 -- there is a list, it is carried, and its size is known
-whole : (k : places.Else-not-is_list) → is_list (length (from_list k).args.operations.now) ≡ true
-whole k = told-true k.before.is-list.ensures k.if1.false
+whole : (k : goal.Else-not-is_list) → is_list (length (from_list k).args.operations.now) ≡ true
+whole k = told-true k.before.is_list.ensures k.if1.false
 
-carried : (k : places.Else-all-ne0)
+carried : (k : goal.Else-all-ne0)
     → let s = from_list (from-carried k).before in
     first_not_carried s.args.format (length s.args.«data».now) 1 (operations_of s.args.operations.now) ≡ 0
 carried k = sym (from-carried k).measure.ensures.bad ∙ k.if2.false
 
-sized : (k : places.Else-all-ne0)
+sized : (k : goal.Else-all-ne0)
     → let s = from_list (from-carried k).before in
     (from-carried k).measure.result.size ≡ all_size s.args.format (operations_of s.args.operations.now)
 sized k = (from-carried k).measure.ensures.sized k.if2.false
 
-script-sized : (k : places.After-script_size-size)
+script-sized : (k : After-script_size)
     → let s = from_list (from-carried k.before).before in
-    k.script-size.result ≡ script_size s.args.format (all_size s.args.format (operations_of s.args.operations.now))
-script-sized k = rw (sized k.before) at k.script-size.ensures
+    k.script_size.result ≡ script_size s.args.format (all_size s.args.format (operations_of s.args.operations.now))
+script-sized k = rw (sized k.before) at k.script_size.ensures
 
 pub measure-all-requires : goal.measure-all-requires
 measure-all-requires c = whole c
@@ -70,7 +81,7 @@ returns-then-script-size c =
     let at_else2 = at_size.before in
     refusal-told _ 4 0 c.refused-then-script-size.ensures (omega arith) (omega arith)
     (no_room _ _ _ _ (whole (from-carried at_else2).before) (carried at_else2) (script-sized at_size)
-    at-else3.if-size-gt-LONGEST_SCRIPT.false c.if-script-size.true)
+    at_else3.if-size-gt-LONGEST_SCRIPT.false c.if-script-size.true)
 
 pub put_script-requires : goal.put_script-requires
 put_script-requires c =
@@ -93,4 +104,4 @@ returns c =
     let at_size = at_else3.before in
     let at_else2 = at_size.before in
     is-built _ _ _ _ (whole (from-carried at_else2).before) (carried at_else2) (script-sized at_size)
-    at-else3.if-size-gt-LONGEST_SCRIPT.false at-else4.if-script-size.false at-put.put_script.ensures c.operations_in.ensures
+    at_else3.if-size-gt-LONGEST_SCRIPT.false at-else4.if-script-size.false at-put.put_script.ensures c.operations_in.ensures

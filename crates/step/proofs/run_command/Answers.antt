@@ -13,17 +13,28 @@ use Rattle.step.specs.Steps.{carried_out}
 use Rattle.step.proofs.Limited.{decided-few}
 use borrow.Author.Rules.{rules}
 use Rattle.step.proofs.run_command.Goals as goal
-use Rattle.step.proofs.run_command.Lts as places
+use Rattle.step.proofs.run_command.Lts as lts
+use Rattle.step.proofs.run_command.Reads as reads
+use Rattle.step.proofs.run_command.Tie as tie
+
+abbrev After-decide : Type 0
+After-decide = lts.After-decide tie.the-claims reads.Pre reads.Post
+
+abbrev Start : Type 0
+Start = lts.Start tie.the-claims reads.Pre reads.Post
+
+abbrev After-limited : Type 0
+After-limited = lts.After-limited tie.the-claims reads.Pre reads.Post
 
 -- where the command starts, from where it was decided
-abbrev start : places.After-decide-d → places.Start
+abbrev start : After-decide → Start
 start c =
     let at-args = c.before.before.before.before in
     let at-slices = at-args.before.before.before in
     at-slices.before.before.before.before
 
 -- the card
-abbrev card_of : places.Start → Card
+abbrev card_of : Start → Card
 card_of s = lent s.args.table.now s.args.files.now s.args.journal.now
 
 pub decide-d-requires : goal.decide-d-requires
@@ -38,7 +49,7 @@ limited-requires c =
     (s.pre.0.kept, decided-few s.args.format s.args.domain s.args.c s.args.«data».now s.args.s (card_of s) s.pre.0.ready _ d.result d.ensures)
 
 -- where the command was decided, from where it was held to the 1,000 bytes
-abbrev decided : places.After-limited → places.After-decide-d
+abbrev decided : After-limited → After-decide
 decided c = c.before.before.before
 
 pub carry_out-requires : goal.carry_out-requires

@@ -24,19 +24,13 @@ returns-then-end-lt-COMPACT_DATA c =
 pub returns-then-data_fit : goal.returns-then-data_fit
 unfolding compact_at compact_told
 returns-then-data_fit c =
-    let at-fit = c.before in
-    let at_else2 = at-fit.before in
-    let at-found = at_else2.before.before in
-    eq_yes _ _ _ at-found.if-at-ne-COMPACT_WORD.false
-    (yes _ _ (and_both _ _ (le-leb _ _ at-else2.if-end-lt-COMPACT_DATA.false) (sym at-fit.data_fit.ensures ∙ c.if-data_fit.true)) refl
-    ∙ ap (compact_told _) (sym at-found.in-Word.is ∙ at-found.word_at.ensures))
+    eq_yes _ _ _ c.if-at-ne-COMPACT_WORD.false
+    (yes _ _ (and_both _ _ (le-leb _ _ c.if-end-lt-COMPACT_DATA.false) (sym c.data_fit.ensures ∙ c.if-data_fit.true)) refl
+    ∙ ap (compact_told _) (sym c.in-Word.is ∙ c.word_at.ensures))
 
 pub returns : goal.returns
 unfolding compact_at compact_told
 returns c =
-    let at-fit = c.before in
-    let at_else2 = at-fit.before in
-    let at-found = at_else2.before.before in
-    eq_yes _ _ _ at-found.if-at-ne-COMPACT_WORD.false
-    (no _ _ (rw (le-leb _ _ at-else2.if-end-lt-COMPACT_DATA.false) (sym at-fit.data_fit.ensures ∙ c.if-data_fit.false)) refl
-    ∙ ap (compact_told _) (sym at-found.in-Word.is ∙ at-found.word_at.ensures))
+    eq_yes _ _ _ c.if-at-ne-COMPACT_WORD.false
+    (no _ _ (rw (le-leb _ _ c.if-end-lt-COMPACT_DATA.false) (sym c.data_fit.ensures ∙ c.if-data_fit.false)) refl
+    ∙ ap (compact_told _) (sym c.in-Word.is ∙ c.word_at.ensures))

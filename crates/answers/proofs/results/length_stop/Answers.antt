@@ -9,10 +9,15 @@ use Rattle.octets.specs.Choice.{pick}
 use Rattle.octets.proofs.Picks.{picks, eq_no}
 use Rattle.answers.specs.Results.{form_bytes, length_stop}
 use Rattle.answers.proofs.results.length_stop.Goals as goal
-use Rattle.answers.proofs.results.length_stop.Lts as places
+use Rattle.answers.proofs.results.length_stop.Lts as lts
+use Rattle.answers.proofs.results.length_stop.Reads as reads
+use Rattle.answers.proofs.results.length_stop.Tie as tie
+
+abbrev After-wide : Type 0
+After-wide = lts.After-wide tie.the-claims reads.Pre reads.Post
 
 -- no byte is missing: the reading stops where the form of the first byte ends
-by_form : (k : places.After-wide-first) (n : ℕ) → n ≡ form_bytes k.wide.result
+by_form : (k : After-wide) (n : ℕ) → n ≡ form_bytes k.wide.result
     → (let a = k.before.before.before.before.before.args in a.at + n ≡ length_stop a.answer.now a.at a.code)
 unfolding length_stop
 by_form k n e =

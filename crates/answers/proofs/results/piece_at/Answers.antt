@@ -15,10 +15,15 @@ use Rattle.answers.specs.Promised.{SizedFits, PieceFits}
 use Rattle.answers.proofs.Places.{piece_told_lem}
 use Rattle.octets.proofs.Picks.{told}
 use Rattle.answers.proofs.results.piece_at.Goals as goal
-use Rattle.answers.proofs.results.piece_at.Lts as places
+use Rattle.answers.proofs.results.piece_at.Lts as lts
+use Rattle.answers.proofs.results.piece_at.Reads as reads
+use Rattle.answers.proofs.results.piece_at.Tie as tie
+
+abbrev After-shared_slice_known : Type 0
+After-shared_slice_known = lts.After-shared_slice_known tie.the-claims reads.Pre reads.Post
 
 -- what is promised of what stands at the place
-told : (k : places.After-shared_slice_known-1) {p : Piece}
+told : (k : After-shared_slice_known) {p : Piece}
     → (let a = k.before.args in
     p ≡ piece_at a.answer.now a.definite a.end a.at
     → (p ≡ piece_at a.answer.now a.definite a.end a.at) × PieceFits (length a.answer.now) a.at p)

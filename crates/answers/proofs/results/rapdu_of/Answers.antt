@@ -7,16 +7,21 @@ use Rattle.answers.specs.declared.words.Words.{Words}
 use Rattle.answers.specs.Words.{word_at}
 use Rattle.answers.specs.Results.{rapdu_ends, words_behind, rapdu_of}
 use Rattle.answers.proofs.results.rapdu_of.Goals as goal
-use Rattle.answers.proofs.results.rapdu_of.Lts as places
+use Rattle.answers.proofs.results.rapdu_of.Lts as lts
+use Rattle.answers.proofs.results.rapdu_of.Reads as reads
+use Rattle.answers.proofs.results.rapdu_of.Tie as tie
+
+abbrev After-word_at : Type 0
+After-word_at = lts.After-word_at tie.the-claims reads.Pre reads.Post
 
 -- the word behind the data
-read : (k : places.After-word_at-worded)
+read : (k : After-word_at)
     → (let a = k.before.before.before.before.args in
-    k.word_at_lem.result ≡ word_at (words_behind (a.n - 2)) a.answer.now (a.from + (a.n - 2)))
+    k.word_at.result ≡ word_at (words_behind (a.n - 2)) a.answer.now (a.from + (a.n - 2)))
 read k =
     let at_words = k.before in
     let a = at_words.before.before.before.args in
-    k.word_at_lem.ensures ∙ ap (λ (w : Words). word_at w a.answer.now (a.from + (a.n - 2))) at_words.words-behind.ensures
+    k.word_at.ensures ∙ ap (λ (w : Words). word_at w a.answer.now (a.from + (a.n - 2))) at_words.words_behind.ensures
 
 pub returns-then-n-lt2 : goal.returns-then-n-lt2
 unfolding rapdu_of

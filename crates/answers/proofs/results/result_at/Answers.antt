@@ -8,10 +8,15 @@ use Rattle.answers.specs.Promised.{ToldFits}
 use Rattle.answers.proofs.Fits.{result_told}
 use Rattle.octets.proofs.Picks.{told}
 use Rattle.answers.proofs.results.result_at.Goals as goal
-use Rattle.answers.proofs.results.result_at.Lts as places
+use Rattle.answers.proofs.results.result_at.Lts as lts
+use Rattle.answers.proofs.results.result_at.Reads as reads
+use Rattle.answers.proofs.results.result_at.Tie as tie
+
+abbrev After-shared_slice_known : Type 0
+After-shared_slice_known = lts.After-shared_slice_known tie.the-claims reads.Pre reads.Post
 
 -- what is promised of a result that is the one at the place
-told : (k : places.After-shared_slice_known-1) {r : Told}
+told : (k : After-shared_slice_known) {r : Told}
     → (let a = k.before.args in
     r ≡ result_at a.format a.answer.now a.at a.end
     → (r ≡ result_at a.format a.answer.now a.at a.end) × ToldFits (length a.answer.now) a.at r)

@@ -12,10 +12,9 @@ use Rattle.answers.specs.Promised.{SizedFits}
 use Rattle.answers.proofs.Places.{sized-told}
 use Rattle.octets.proofs.Picks.{told}
 use Rattle.answers.proofs.results.sized_at.Goals as goal
-use Rattle.answers.proofs.results.sized_at.Lts as places
 
 -- what is promised of a length that is the one at the place
-told : (k : places.After-shared_slice_known-1) {r : Sized}
+told : (k : goal.After-shared_slice_known-1) {r : Sized}
     → (let a = k.before.args in
     r ≡ sized_at a.answer.now a.definite a.end a.at
     → (r ≡ sized_at a.answer.now a.definite a.end a.at) × SizedFits (length a.answer.now) a.at r)

@@ -16,11 +16,9 @@ returns-then-answer-behind-ne0 c =
 pub returns-then-t-answer : goal.returns-then-t-answer
 unfolding indefinite_end
 returns-then-t-answer c =
-    let at_else2 = c.before.before.before.before in
-    yes _ _ (rw (lt-ltb _ _ at-else2.if-answer-behind.false, eq-eqb _ _ at-else2.if-answer-behind-ne0.false)) (search picks)
+    yes _ _ (rw (lt-ltb _ _ c.if-answer-behind.false, eq-eqb _ _ c.if-answer-behind-ne0.false)) (search picks)
 
 pub returns : goal.returns
 unfolding indefinite_end
 returns c =
-    let at_else2 = c.before.before.before in
-    yes _ _ (rw (lt-ltb _ _ at-else2.if-answer-behind.false, eq-eqb _ _ at-else2.if-answer-behind-ne0.false)) (search picks)
+    yes _ _ (rw (lt-ltb _ _ c.if-answer-behind.false, eq-eqb _ _ c.if-answer-behind-ne0.false)) (search picks)

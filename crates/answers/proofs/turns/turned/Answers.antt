@@ -10,10 +10,18 @@ use Rattle.answers.specs.Promised.{PieceFits, TurnedFits}
 use Rattle.answers.proofs.Places.{turned-told}
 use Rattle.octets.proofs.Picks.{told}
 use Rattle.answers.proofs.turns.turned.Goals as goal
-use Rattle.answers.proofs.turns.turned.Lts as places
+use Rattle.answers.proofs.turns.turned.Lts as lts
+use Rattle.answers.proofs.turns.turned.Reads as reads
+use Rattle.answers.proofs.turns.turned.Tie as tie
+
+abbrev After-shared_slice_known : Type 0
+After-shared_slice_known = lts.After-shared_slice_known tie.the-claims reads.Pre reads.Post
+
+abbrev After-piece_at : Type 0
+After-piece_at = lts.After-piece_at tie.the-claims reads.Pre reads.Post
 
 -- what is promised of the reading after the turn
-told : (k : places.After-shared_slice_known-1) {r : Turn}
+told : (k : After-shared_slice_known) {r : Turn}
     → (let a = k.before.args in
     r ≡ turned a.answer.now a.definite a.end a.t
     → (r ≡ turned a.answer.now a.definite a.end a.t) × TurnedFits (length a.answer.now) a.t r)
@@ -22,9 +30,9 @@ told k =
     turned-told a.answer.now (λ i. (k.shared-slice-known.given i).fits) a.definite a.end a.t k.before.requires
 
 -- a turn that comes of what stands there
-by_piece : (k : places.After-piece_at-piece) {r : Turn} {p : Piece}
+by_piece : (k : After-piece_at) {r : Turn} {p : Piece}
     → (let a = k.before.before.before.before.before.before.before.before.args in
-    r ≡ turned_by a.definite a.t p → k.piece-at.result ≡ p
+    r ≡ turned_by a.definite a.t p → k.piece_at.result ≡ p
     → (r ≡ turned a.answer.now a.definite a.end a.t) × TurnedFits (length a.answer.now) a.t r)
 unfolding turned
 by_piece k e known =
@@ -36,7 +44,7 @@ by_piece k e known =
     (no _ _ at-else1.if1.false
     (le_no _ _ _ at_else2.if2.false
     (no _ _ at_else3.if3.false
-    (eq_no _ _ _ at-else4.if4.false (e ∙ ap (turned_by _ _) (sym known ∙ k.piece-at.ensures.0))))))
+    (eq_no _ _ _ at-else4.if4.false (e ∙ ap (turned_by _ _) (sym known ∙ k.piece_at.ensures.0))))))
 
 pub returns-then-definite-at : goal.returns-then-definite-at
 unfolding turned

@@ -12,36 +12,31 @@ use Rattle.card.specs.Sound.{entries_sound, pairs_sound, lengths_sound, sound_by
 use Rattle.card.proofs.Promises.{whole-entries, some-entries, few-entries, some_bytes, few_bytes}
 use Rattle.octets.proofs.Picks.{told}
 use Rattle.card.proofs.sound.sound_table.Goals as goal
-use Rattle.card.proofs.sound.sound_table.Lts as places
 
 passed : (t files : List ℕ) {p : Bool} → length t % 16 ≡ 0 → 1 ≤ entries t → entries t ≤ 64 → 1 ≤ length files → length files ≤ 32768 → entries_sound (entries t) (length files) (row_of t) ≡ true → p ≡ pairs_sound (entries t) (row_of t) → p ≡ sound_table t files
 unfolding sound_table sound_by lengths_sound
 passed t files w s f m n e p =
     rw (eq-eqb (length t % 16) 0 w, le-leb 1 (entries t) s, le-leb (entries t) 64 f, le-leb 1 (length files) m, le-leb (length files) 32768 n, e) p
 
-unsound : (s : places.Start) → (sound_table s.args.table.now s.args.files.now ≡ true → ⊥) → false ≡ sound_table s.args.table.now s.args.files.now
-unsound s h = sym (refuted _ h)
+unsound : (t files : List ℕ) → (sound_table t files ≡ true → ⊥) → false ≡ sound_table t files
+unsound t files h = sym (refuted (sound_table t files) h)
 
 pub returns-then-table-ne0 : goal.returns-then-table-ne0
-returns-then-table-ne0 c = unsound c.before.before.before (λ s. let h = whole-entries _ _ s in omega arith)
+returns-then-table-ne0 c = unsound _ _ (λ s. let h = whole-entries _ _ s in omega arith)
 
 pub returns-then-n-lt1 : goal.returns-then-n-lt1
-returns-then-n-lt1 c = unsound c.before.before.before.before.before (λ s. let h = some-entries _ _ s in omega arith)
+returns-then-n-lt1 c = unsound _ _ (λ s. let h = some-entries _ _ s in omega arith)
 
 pub returns-then-n-gt-MOST_ENTRIES : goal.returns-then-n-gt-MOST_ENTRIES
-returns-then-n-gt-MOST_ENTRIES c = unsound c.before.before.before.before.before.before (λ s. let h = few-entries _ _ s in omega arith)
+returns-then-n-gt-MOST_ENTRIES c = unsound _ _ (λ s. let h = few-entries _ _ s in omega arith)
 
 pub returns-then-files-lt1 : goal.returns-then-files-lt1
 returns-then-files-lt1 c =
-    let at-shared-slice-known = c.before.before.before.before.before.before in
-    let at-start = at-shared-slice-known.before in
-    unsound (at-start) (λ s. let h = some_bytes _ _ s in omega arith)
+    unsound _ _ (λ s. let h = some_bytes _ _ s in omega arith)
 
 pub returns-then-files-gt-MOST_FILE_BYTES : goal.returns-then-files-gt-MOST_FILE_BYTES
 returns-then-files-gt-MOST_FILE_BYTES c =
-    let at-shared-slice-known2 = c.before.before.before.before.before.before in
-    let at-start = at-shared-slice-known2.before.before in
-    unsound (at-start) (λ s. let h = few_bytes _ _ s in omega arith)
+    unsound _ _ (λ s. let h = few_bytes _ _ s in omega arith)
 
 pub returns-then-not-entries_sound : goal.returns-then-not-entries_sound
 unfolding sound_table sound_by

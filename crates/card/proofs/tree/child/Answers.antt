@@ -7,13 +7,10 @@ use native.Mathlib.Omega.{arith}
 use lib.Dec.{eqb}
 use Rattle.card.specs.Row.{entries, row_of, is_df, can_be_child}
 use Rattle.card.specs.declared.Row.{Row}
-use Rattle.card.specs.Tree.{first_from, is_child_of, child_with}
+use Rattle.card.specs.Tree.{first_from, child_with}
 use Rattle.card.proofs.Kin.{first_found, first-goes_on, first_ends}
+use Rattle.card.proofs.tree.child.Invariants.{wanted}
 use Rattle.card.proofs.tree.child.Goals as goal
-
--- whether an entry is the child that is looked for
-abbrev wanted : List ℕ → ℕ → Bool → ℕ → ℕ → Bool
-wanted t directory df identifier e = is_child_of directory (row_of t e) && ((not df || is_df (row_of t e)) && eqb (row_of t e).identifier identifier)
 
 tested : (t : List ℕ) (directory : ℕ) (df : Bool) (identifier e : ℕ) (r : Row) {b v : Bool} → r ≡ row_of t e → b ≡ can_be_child r → ((b && eqb r.parent directory) && ((not df || is_df r) && eqb r.identifier identifier)) ≡ v → wanted t directory df identifier e ≡ v
 tested t directory df identifier e r x y h = rw (← x, ← y) h
@@ -22,18 +19,18 @@ pub loop-e-init : goal.loop-e-init
 loop-e-init c =
     let a = c.args in
     let k : entries a.table.now ≡ c.entries-n.result - 0 = omega arith in
-    (omega arith, ap (λ (n : ℕ). first_from n 0 (wanted a.table.now a.directory a.only-df a.identifier)) k)
+    (omega arith, ap (λ (n : ℕ). first_from n 0 (wanted a.table.now a.directory a.only_df a.identifier)) k)
 
 pub returns-then-can_be_child-r : goal.returns-then-can_be_child-r
 unfolding child_with
 returns-then-can_be_child-r c =
     let a = c.args in
-    first_found _ _ _ c.loop-e.invariant.1 (omega arith) (tested a.table.now a.directory a.only-df a.identifier _ _ c.row_at-r.ensures.0 c.can_be_child.ensures c.if-can_be_child-r.true)
+    first_found _ _ _ c.loop-e.invariant.1 (omega arith) (tested a.table.now a.directory a.only_df a.identifier _ _ c.row_at-r.ensures.0 c.can_be_child.ensures c.if-can_be_child-r.true)
 
 pub loop-e-preserved : goal.loop-e-preserved
 loop-e-preserved c =
     let a = c.args in
-    (omega arith, first-goes_on _ _ _ c.loop-e.invariant.1 (omega arith) (tested a.table.now a.directory a.only-df a.identifier _ _ c.row_at-r.ensures.0 c.can_be_child.ensures c.if-can_be_child-r.false))
+    (omega arith, first-goes_on _ _ _ c.loop-e.invariant.1 (omega arith) (tested a.table.now a.directory a.only_df a.identifier _ _ c.row_at-r.ensures.0 c.can_be_child.ensures c.if-can_be_child-r.false))
 
 pub returns : goal.returns
 unfolding child_with

@@ -16,10 +16,15 @@ use Rattle.command.specs.Outcomes.{data_of, data_count}
 use Rattle.command.specs.Promised.{OutcomeFits}
 use Rattle.command.proofs.Outgoing.{known_fits, known_room, known_data}
 use Rattle.command.proofs.ends.put_data.Goals as goal
-use Rattle.command.proofs.ends.put_data.Lts as places
+use Rattle.command.proofs.ends.put_data.Lts as lts
+use Rattle.command.proofs.ends.put_data.Reads as reads
+use Rattle.command.proofs.ends.put_data.Tie as tie
+
+abbrev Start : Type 0
+Start = lts.Start tie.the-claims reads.Pre reads.Post
 
 -- an arm's outcome: it fits, there is room for it, and its bytes are those asked
-module _ (s : places.Start) {other : Outcome} (same : s.args.o ≡ other) where
+module _ (s : Start) {other : Outcome} (same : s.args.o ≡ other) where
   fits : OutcomeFits (length s.args.files.now) other
   fits = known_fits same _ s.requires.0
 

@@ -16,7 +16,39 @@ use Rattle.decide.specs.Order.{bound_checks}
 use Rattle.decide.specs.Promised.{Bound}
 use Rattle.std.proofs.lemmas.Bool.{not_from_true, not_from_false}
 use Rattle.decide.proofs.checks.file_check.Goals as goal
-use Rattle.decide.proofs.checks.file_check.Lts as places
+use Rattle.decide.proofs.checks.file_check.Lts as lts
+use Rattle.decide.proofs.checks.file_check.Reads as reads
+use Rattle.decide.proofs.checks.file_check.Tie as tie
+
+abbrev Start : Type 0
+Start = lts.Start tie.the-claims reads.Pre reads.Post
+
+abbrev After-target : Type 0
+After-target = lts.After-target tie.the-claims reads.Pre reads.Post
+
+abbrev After-kind_fits : Type 0
+After-kind_fits = lts.After-kind_fits tie.the-claims reads.Pre reads.Post
+
+abbrev After-wrong_mode : Type 0
+After-wrong_mode = lts.After-wrong_mode tie.the-claims reads.Pre reads.Post
+
+abbrev After-is_shut : Type 0
+After-is_shut = lts.After-is_shut tie.the-claims reads.Pre reads.Post
+
+abbrev After-is_never : Type 0
+After-is_never = lts.After-is_never tie.the-claims reads.Pre reads.Post
+
+abbrev After-offset_outside : Type 0
+After-offset_outside = lts.After-offset_outside tie.the-claims reads.Pre reads.Post
+
+abbrev Else6 : Type 0
+Else6 = lts.Else6 tie.the-claims reads.Pre reads.Post
+
+abbrev After-no_record : Type 0
+After-no_record = lts.After-no_record tie.the-claims reads.Pre reads.Post
+
+abbrev After-length_fits : Type 0
+After-length_fits = lts.After-length_fits tie.the-claims reads.Pre reads.Post
 
 pub overflow_mul-offset : goal.overflow_mul-offset
 overflow_mul-offset c = omega (arith, c.requires.2.p1)
@@ -25,22 +57,22 @@ pub overflow_add-offset : goal.overflow_add-offset
 overflow_add-offset c = omega (arith, c.requires.2.p1, c.requires.2.p2)
 
 -- what is known of the situations, and that the first n checks are passed
-abbrev Known : places.Start → Situation → Type 0
+abbrev Known : Start → Situation → Type 0
 Known s = Bound s.args.c s.args.lc s.args.s s.args.r
 
-abbrev Past : places.Start → ℕ → Type 0
+abbrev Past : Start → ℕ → Type 0
 Past s n = Left (Known s) bound_checks (drop n bound_checks)
 
-abbrev to_file : places.After-target → places.Start
+abbrev to_file : After-target → Start
 to_file c = c.before.before.before
 
-file : (c : places.After-target) → Finds (Known (to_file c)) NoFile (eqb c.target.result 0)
+file : (c : After-target) → Finds (Known (to_file c)) NoFile (eqb c.target.result 0)
 file c = finds_file _ _ _ _ c.requires.0 c.target.ensures
 
-abbrev from-file : places.Else-target-eq0 → places.Start
+abbrev from-file : goal.Else-target-eq0 → Start
 from-file c = to_file c.before
 
-past-file : (c : places.Else-target-eq0) → Past (from-file c) 1
+past-file : (c : goal.Else-target-eq0) → Past (from-file c) 1
 unfolding bound_checks
 past-file c = passes (all_left (Known (from-file c)) bound_checks) (file c.before) (ne_eqb _ _ c.if-target-eq0.false)
 
@@ -48,13 +80,13 @@ pub returns-then-target-eq0 : goal.returns-then-target-eq0
 unfolding bound_checks
 returns-then-target-eq0 c = is-first (all_left (Known (to_file c.before)) bound_checks) (file c.before) (eq-eqb _ _ c.if-target-eq0.true)
 
-kind : (c : places.After-kind_fits) → Finds (Known (from-file c.before)) WrongKind (not c.kind_fits.result)
+kind : (c : After-kind_fits) → Finds (Known (from-file c.before)) WrongKind (not c.kind_fits.result)
 kind c = finds_kind _ _ _ _ (from-file c.before).requires.0 c.kind_fits.ensures
 
-abbrev from-kind : places.Else-not-kind_fits → places.Start
+abbrev from-kind : goal.Else-not-kind_fits → Start
 from-kind c = from-file c.before.before
 
-past-kind : (c : places.Else-not-kind_fits) → Past (from-kind c) 2
+past-kind : (c : goal.Else-not-kind_fits) → Past (from-kind c) 2
 unfolding bound_checks
 past-kind c = passes (past-file c.before.before) (kind c.before) (not_from_true _ c.if-not-kind_fits.false)
 
@@ -62,13 +94,13 @@ pub returns-then-not-kind_fits : goal.returns-then-not-kind_fits
 unfolding bound_checks
 returns-then-not-kind_fits c = is-first (past-file c.before.before) (kind c.before) (not_from_false _ c.if-not-kind_fits.true)
 
-mode : (c : places.After-wrong_mode) → Finds (Known (from-kind c.before)) WrongMode c.wrong_mode.result
+mode : (c : After-wrong_mode) → Finds (Known (from-kind c.before)) WrongMode c.wrong_mode.result
 mode c = finds_mode _ _ _ _ (from-kind c.before).requires.0 c.wrong_mode.ensures
 
-abbrev from-mode : places.Else-wrong_mode → places.Start
+abbrev from-mode : goal.Else-wrong_mode → Start
 from-mode c = from-kind c.before.before
 
-past-mode : (c : places.Else-wrong_mode) → Past (from-mode c) 3
+past-mode : (c : goal.Else-wrong_mode) → Past (from-mode c) 3
 unfolding bound_checks
 past-mode c = passes (past-kind c.before.before) (mode c.before) c.if-wrong_mode.false
 
@@ -76,13 +108,13 @@ pub returns-then-wrong_mode : goal.returns-then-wrong_mode
 unfolding bound_checks
 returns-then-wrong_mode c = is-first (past-kind c.before.before) (mode c.before) c.if-wrong_mode.true
 
-shut : (c : places.After-is_shut) → Finds (Known (from-mode c.before)) Deactivated c.is_shut.result
+shut : (c : After-is_shut) → Finds (Known (from-mode c.before)) Deactivated c.is_shut.result
 shut c = finds_shut _ _ _ _ (from-mode c.before).requires.0 c.is_shut.ensures
 
-abbrev from_shut : places.Else-is_shut → places.Start
+abbrev from_shut : goal.Else-is_shut → Start
 from_shut c = from-mode c.before.before
 
-past_shut : (c : places.Else-is_shut) → Past (from_shut c) 4
+past_shut : (c : goal.Else-is_shut) → Past (from_shut c) 4
 unfolding bound_checks
 past_shut c = passes (past-mode c.before.before) (shut c.before) c.if-is_shut.false
 
@@ -90,13 +122,13 @@ pub returns-then-is_shut : goal.returns-then-is_shut
 unfolding bound_checks
 returns-then-is_shut c = is-first (past-mode c.before.before) (shut c.before) c.if-is_shut.true
 
-never : (c : places.After-is_never) → Finds (Known (from_shut c.before)) Never c.is_never.result
+never : (c : After-is_never) → Finds (Known (from_shut c.before)) Never c.is_never.result
 never c = finds_never _ _ _ _ (from_shut c.before).requires.0 c.is_never.ensures
 
-abbrev from-never : places.Else-is_never → places.Start
+abbrev from-never : goal.Else-is_never → Start
 from-never c = from_shut c.before.before
 
-past-never : (c : places.Else-is_never) → Past (from-never c) 5
+past-never : (c : goal.Else-is_never) → Past (from-never c) 5
 unfolding bound_checks
 past-never c = passes (past_shut c.before.before) (never c.before) c.if-is_never.false
 
@@ -104,14 +136,14 @@ pub returns-then-is_never : goal.returns-then-is_never
 unfolding bound_checks
 returns-then-is_never c = is-first (past_shut c.before.before) (never c.before) c.if-is_never.true
 
-offset : (c : places.After-offset_outside) → Finds (Known (from-never c.before)) OffsetOutside c.offset_outside.result
+offset : (c : After-offset_outside) → Finds (Known (from-never c.before)) OffsetOutside c.offset_outside.result
 unfolding offset_of
 offset c = finds_offset _ _ _ _ (from-never c.before).requires.0 c.offset_outside.ensures
 
-abbrev from_offset : places.Else-offset_outside → places.Start
+abbrev from_offset : Else6 → Start
 from_offset c = from-never c.before.before
 
-past_offset : (c : places.Else-offset_outside) → Past (from_offset c) 6
+past_offset : (c : Else6) → Past (from_offset c) 6
 unfolding bound_checks
 past_offset c = passes (past-never c.before.before) (offset c.before) c.if-offset_outside.false
 
@@ -124,13 +156,13 @@ no_record-requires c =
     let p = c.requires in
     (p.0, p.1, told c.kind_fits.ensures (not-false _ (not_from_true _ c.if-not-kind_fits.false)))
 
-named : (c : places.After-no_record) → Finds (Known (from_offset c.before.before)) NoRecord c.no_record.result
+named : (c : After-no_record) → Finds (Known (from_offset c.before.before)) NoRecord c.no_record.result
 named c = finds_record _ _ _ _ (from_offset c.before.before).requires.0 c.no_record.ensures
 
-abbrev from_named : places.Else-no_record → places.Start
+abbrev from_named : goal.Else-no_record → Start
 from_named c = from_offset c.before.before.before
 
-past-named : (c : places.Else-no_record) → Past (from_named c) 7
+past-named : (c : goal.Else-no_record) → Past (from_named c) 7
 unfolding bound_checks
 past-named c = passes (past_offset c.before.before.before) (named c.before) c.if-no_record.false
 
@@ -138,7 +170,7 @@ pub returns-then-no_record : goal.returns-then-no_record
 unfolding bound_checks
 returns-then-no_record c = is-first (past_offset c.before.before.before) (named c.before) c.if-no_record.true
 
-length : (c : places.After-length_fits) → Finds (Known (from_named c.before)) WrongLength (not c.length_fits.result)
+length : (c : After-length_fits) → Finds (Known (from_named c.before)) WrongLength (not c.length_fits.result)
 unfolding offset_of
 length c = finds_length _ _ _ _ (from_named c.before).requires.0 c.length_fits.ensures
 

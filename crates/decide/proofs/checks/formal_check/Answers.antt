@@ -15,23 +15,46 @@ use Rattle.decide.specs.Order.{formal_checks}
 use Rattle.decide.specs.Promised.{Formal}
 use Rattle.std.proofs.lemmas.Bool.{not_from_true, not_from_false}
 use Rattle.decide.proofs.checks.formal_check.Goals as goal
-use Rattle.decide.proofs.checks.formal_check.Lts as places
+use Rattle.decide.proofs.checks.formal_check.Lts as lts
+use Rattle.decide.proofs.checks.formal_check.Reads as reads
+use Rattle.decide.proofs.checks.formal_check.Tie as tie
+
+abbrev Start : Type 0
+Start = lts.Start tie.the-claims reads.Pre reads.Post
+
+abbrev After-is_known : Type 0
+After-is_known = lts.After-is_known tie.the-claims reads.Pre reads.Post
+
+abbrev After-class_of : Type 0
+After-class_of = lts.After-class_of tie.the-claims reads.Pre reads.Post
+
+abbrev After-is_outgoing : Type 0
+After-is_outgoing = lts.After-is_outgoing tie.the-claims reads.Pre reads.Post
+
+abbrev After-wrong_case : Type 0
+After-wrong_case = lts.After-wrong_case tie.the-claims reads.Pre reads.Post
+
+abbrev After-parameters_fit : Type 0
+After-parameters_fit = lts.After-parameters_fit tie.the-claims reads.Pre reads.Post
+
+abbrev After-wrong_domain : Type 0
+After-wrong_domain = lts.After-wrong_domain tie.the-claims reads.Pre reads.Post
 
 -- what is known of the situations, and that the first n checks are passed
-abbrev Known : places.Start → Situation → Type 0
+abbrev Known : Start → Situation → Type 0
 Known s = Formal s.args.c s.args.lc s.args.domain
 
-abbrev Past : places.Start → ℕ → Type 0
+abbrev Past : Start → ℕ → Type 0
 Past s n = Left (Known s) formal_checks (drop n formal_checks)
 
 -- the form
-abbrev from_form : places.Else-not-c → places.Start
+abbrev from_form : goal.Else-not-c → Start
 from_form c = c.before.before
 
-form : (s : places.Start) → Finds (Known s) BrokenForm (not s.args.c.whole)
+form : (s : Start) → Finds (Known s) BrokenForm (not s.args.c.whole)
 form s = finds_form _ _ _ s.requires
 
-past_form : (c : places.Else-not-c) → Past (from_form c) 1
+past_form : (c : goal.Else-not-c) → Past (from_form c) 1
 unfolding formal_checks
 past_form c = passes (all_left (Known (from_form c)) formal_checks) (form (from_form c)) (not_from_true _ c.if-not-c.false)
 
@@ -40,13 +63,13 @@ unfolding formal_checks
 returns-then-not-c c = is-first (all_left (Known c.before.before) formal_checks) (form c.before.before) (not_from_false _ c.if-not-c.true)
 
 -- the instruction
-abbrev from-instruction : places.Else-not-is_known → places.Start
+abbrev from-instruction : goal.Else-not-is_known → Start
 from-instruction c = from_form c.before.before
 
-instruction : (c : places.After-is_known) → Finds (Known (from_form c.before)) UnknownInstruction (not c.is_known.result)
+instruction : (c : After-is_known) → Finds (Known (from_form c.before)) UnknownInstruction (not c.is_known.result)
 instruction c = finds_instruction _ _ _ (from_form c.before).requires c.is_known.ensures
 
-past-instruction : (c : places.Else-not-is_known) → Past (from-instruction c) 2
+past-instruction : (c : goal.Else-not-is_known) → Past (from-instruction c) 2
 unfolding formal_checks
 past-instruction c = passes (past_form c.before.before) (instruction c.before) (not_from_true _ c.if-not-is_known.false)
 
@@ -55,13 +78,13 @@ unfolding formal_checks
 returns-then-not-is_known c = is-first (past_form c.before.before) (instruction c.before) (not_from_false _ c.if-not-is_known.true)
 
 -- the class
-abbrev from-class : places.Else-c-class_of → places.Start
+abbrev from-class : goal.Else-c-class_of → Start
 from-class c = from-instruction c.before.before.before
 
-class : (c : places.After-class_of) → Finds (Known (from-instruction c.before)) WrongClass (not (eqb (from-instruction c.before).args.c.class c.class_of.result))
+class : (c : After-class_of) → Finds (Known (from-instruction c.before)) WrongClass (not (eqb (from-instruction c.before).args.c.class c.class_of.result))
 class c = finds_class _ _ _ (from-instruction c.before).requires c.class_of.ensures
 
-past-class : (c : places.Else-c-class_of) → Past (from-class c) 3
+past-class : (c : goal.Else-c-class_of) → Past (from-class c) 3
 unfolding formal_checks
 past-class c = passes (past-instruction c.before.before.before) (class c.before.before) (ap not (eq-eqb _ _ c.if-c-class_of.false))
 
@@ -70,13 +93,13 @@ unfolding formal_checks
 returns-then-c-class_of c = is-first (past-instruction c.before.before.before) (class c.before.before) (ap not (ne_eqb _ _ c.if-c-class_of.true))
 
 -- bytes after it
-abbrev from-after : places.Else-is_outgoing-c → places.Start
+abbrev from-after : goal.Else-is_outgoing-c → Start
 from-after c = from-class c.before.before.before
 
-after : (c : places.After-is_outgoing) → Finds (Known (from-class c.before)) BytesAfter (c.is_outgoing.result && (from-class c.before).args.c.after)
+after : (c : After-is_outgoing) → Finds (Known (from-class c.before)) BytesAfter (c.is_outgoing.result && (from-class c.before).args.c.after)
 after c = finds_after _ _ _ (from-class c.before).requires c.is_outgoing.ensures
 
-past_after : (c : places.Else-is_outgoing-c) → Past (from-after c) 4
+past_after : (c : goal.Else-is_outgoing-c) → Past (from-after c) 4
 unfolding formal_checks
 past_after c = passes (past-class c.before.before.before) (after c.before.before) c.if-is_outgoing-c.false
 
@@ -85,13 +108,13 @@ unfolding formal_checks
 returns-then-is_outgoing-c c = is-first (past-class c.before.before.before) (after c.before.before) c.if-is_outgoing-c.true
 
 -- the case
-abbrev from-case : places.Else-wrong_case → places.Start
+abbrev from-case : goal.Else-wrong_case → Start
 from-case c = from-after c.before.before
 
-case : (c : places.After-wrong_case) → Finds (Known (from-after c.before)) WrongCase c.wrong_case.result
+case : (c : After-wrong_case) → Finds (Known (from-after c.before)) WrongCase c.wrong_case.result
 case c = finds_case _ _ _ (from-after c.before).requires c.wrong_case.ensures
 
-past-case : (c : places.Else-wrong_case) → Past (from-case c) 5
+past-case : (c : goal.Else-wrong_case) → Past (from-case c) 5
 unfolding formal_checks
 past-case c = passes (past_after c.before.before) (case c.before) c.if-wrong_case.false
 
@@ -100,13 +123,13 @@ unfolding formal_checks
 returns-then-wrong_case c = is-first (past_after c.before.before) (case c.before) c.if-wrong_case.true
 
 -- P1 and P2
-abbrev from_parameters : places.Else-not-parameters_fit → places.Start
+abbrev from_parameters : goal.Else-not-parameters_fit → Start
 from_parameters c = from-case c.before.before
 
-parameters : (c : places.After-parameters_fit) → Finds (Known (from-case c.before)) WrongParameters (not c.parameters_fit.result)
+parameters : (c : After-parameters_fit) → Finds (Known (from-case c.before)) WrongParameters (not c.parameters_fit.result)
 parameters c = finds_parameters _ _ _ (from-case c.before).requires c.parameters_fit.ensures
 
-past_parameters : (c : places.Else-not-parameters_fit) → Past (from_parameters c) 6
+past_parameters : (c : goal.Else-not-parameters_fit) → Past (from_parameters c) 6
 unfolding formal_checks
 past_parameters c = passes (past-case c.before.before) (parameters c.before) (not_from_true _ c.if-not-parameters_fit.false)
 
@@ -114,7 +137,7 @@ pub returns-then-not-parameters_fit : goal.returns-then-not-parameters_fit
 unfolding formal_checks
 returns-then-not-parameters_fit c = is-first (past-case c.before.before) (parameters c.before) (not_from_false _ c.if-not-parameters_fit.true)
 
-domain : (c : places.After-wrong_domain) → Finds (Known (from_parameters c.before)) WrongDomain c.wrong_domain.result
+domain : (c : After-wrong_domain) → Finds (Known (from_parameters c.before)) WrongDomain c.wrong_domain.result
 domain c = finds_domain _ _ _ (from_parameters c.before).requires c.wrong_domain.ensures
 
 pub returns-then-wrong_domain : goal.returns-then-wrong_domain

@@ -1,13 +1,18 @@
 -- `decide::file::activate` meets its contract: the first check that fails, or what ACTIVATE does. Assumes nothing.
 use Rattle.decide.proofs.Passed.{file-small, entry-inside, to_check, check_failed, activates, check_switched}
 use Rattle.decide.proofs.file.activate.Goals as goal
-use Rattle.decide.proofs.file.activate.Lts as places
+use Rattle.decide.proofs.file.activate.Lts as lts
+use Rattle.decide.proofs.file.activate.Reads as reads
+use Rattle.decide.proofs.file.activate.Tie as tie
+
+abbrev Start : Type 0
+Start = lts.Start tie.the-claims reads.Pre reads.Post
 
 -- where the file's row was read from, and where all checks are passed
-abbrev start : places.After-target_row-r → places.Start
+abbrev start : goal.After-target_row-r → Start
 start c = c.before.before.before.before
 
-abbrev row_at : places.In_default → places.After-target_row-r
+abbrev row_at : goal.In_default → goal.After-target_row-r
 row_at c = c.before.before.before
 
 pub target_row-r-requires : goal.target_row-r-requires

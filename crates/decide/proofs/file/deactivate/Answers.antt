@@ -1,13 +1,18 @@
 -- `decide::file::deactivate` meets its contract: the first check that fails, or what DEACTIVATE does. Assumes nothing.
 use Rattle.decide.proofs.Passed.{file-small, entry-inside, to_check, check_failed, deactivates, check_switched}
 use Rattle.decide.proofs.file.deactivate.Goals as goal
-use Rattle.decide.proofs.file.deactivate.Lts as places
+use Rattle.decide.proofs.file.deactivate.Lts as lts
+use Rattle.decide.proofs.file.deactivate.Reads as reads
+use Rattle.decide.proofs.file.deactivate.Tie as tie
+
+abbrev Start : Type 0
+Start = lts.Start tie.the-claims reads.Pre reads.Post
 
 -- where the file's row was read from, and where all checks are passed
-abbrev start : places.After-target_row-r → places.Start
+abbrev start : goal.After-target_row-r → Start
 start c = c.before.before.before.before
 
-abbrev row_at : places.In_default → places.After-target_row-r
+abbrev row_at : goal.In_default → goal.After-target_row-r
 row_at c = c.before.before.before
 
 pub target_row-r-requires : goal.target_row-r-requires

@@ -8,13 +8,18 @@ use Rattle.decide.specs.Decisions.{situation}
 use Rattle.decide.proofs.Passed.{Known, of_records, has_named, update-fits, entry-inside, newest-inside, to_check, check_failed, check_passed, check_plainly}
 use lib.ListN.{length}
 use Rattle.decide.proofs.file.update_record.Goals as goal
-use Rattle.decide.proofs.file.update_record.Lts as places
+use Rattle.decide.proofs.file.update_record.Lts as lts
+use Rattle.decide.proofs.file.update_record.Reads as reads
+use Rattle.decide.proofs.file.update_record.Tie as tie
+
+abbrev Start : Type 0
+Start = lts.Start tie.the-claims reads.Pre reads.Post
 
 -- where the file's row was read from, and where all checks are passed
-abbrev start : places.After-target_row-r → places.Start
+abbrev start : goal.After-target_row-r → Start
 start c = c.before.before.before.before
 
-abbrev row_at : places.In_default → places.After-target_row-r
+abbrev row_at : goal.In_default → goal.After-target_row-r
 row_at c = c.before.before.before
 
 pub target_row-r-requires : goal.target_row-r-requires
@@ -28,8 +33,8 @@ returns-in-Failed c =
     check_failed c.target_row-r.ensures c.checked.ensures c.in-Failed.is c.failed.ensures
 
 -- what is known where all checks are passed
-module _ (c : places.In_default) where
-  abbrev s : places.Start
+module _ (c : goal.In_default) where
+  abbrev s : Start
   s = start (row_at c)
 
   known : Known (length s.args.files.now) s.args.c (length s.args.«data».now) s.args.s c.target_row-r.result

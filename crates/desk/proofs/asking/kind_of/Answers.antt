@@ -10,7 +10,15 @@ use Rattle.lines.specs.Digits.{ascii}
 use Rattle.operations.specs.Rows.{select, update, read, update_record, read_record, increase}
 use Rattle.desk.specs.Asking.{kind_of}
 use Rattle.desk.proofs.asking.kind_of.Goals as goal
-use Rattle.desk.proofs.asking.kind_of.Lts as places
+use Rattle.desk.proofs.asking.kind_of.Lts as lts
+use Rattle.desk.proofs.asking.kind_of.Reads as reads
+use Rattle.desk.proofs.asking.kind_of.Tie as tie
+
+abbrev Else6 : Type 0
+Else6 = lts.Else6 tie.the-claims reads.Pre reads.Post
+
+abbrev Start : Type 0
+Start = lts.Start tie.the-claims reads.Pre reads.Post
 
 -- the kind that one of the first six names says, and `rest` where none of them stands
 abbrev of_six : List ℕ → ℕ → ℕ
@@ -21,13 +29,13 @@ of_six line rest =
     (pick (starts_with line (ascii "update-record=")) update_record
     (pick (starts_with line (ascii "read-record=")) read_record (pick (starts_with line (ascii "increase=")) increase rest)))))
 
-abbrev start : places.Else-stands-6 → places.Start
+abbrev start : Else6 → Start
 start k =
     let at-3 = k.before.before.before.before.before.before.before.before.before in
     let at_1 = at-3.before.before.before.before.before.before in
     at_1.before.before.before.before
 
-six_missing : (k : places.Else-stands-6) {r rest : ℕ} → r ≡ rest → r ≡ of_six (start k).args.line.now rest
+six_missing : (k : Else6) {r rest : ℕ} → r ≡ rest → r ≡ of_six (start k).args.line.now rest
 unfolding ascii
 six_missing k e =
     let at_5 = k.before.before.before in

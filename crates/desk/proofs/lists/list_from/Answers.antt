@@ -7,32 +7,52 @@ use Rattle.desk.specs.Promised.{held_in, ListingFits}
 use Rattle.desk.proofs.Going.{begins, Asked, asking_lies, ends, fails, row_fits, from-inside, held_inside, digits_hex, digits_fit, bytes-few, goes_on_lem}
 use native.Mathlib.Omega.{arith}
 use Rattle.desk.proofs.lists.list_from.Goals as goal
-use Rattle.desk.proofs.lists.list_from.Lts as places
+use Rattle.desk.proofs.lists.list_from.Lts as lts
+use Rattle.desk.proofs.lists.list_from.Reads as reads
+use Rattle.desk.proofs.lists.list_from.Tie as tie
+
+abbrev After-decode : Type 0
+After-decode = lts.After-decode tie.the-claims reads.Pre reads.Post
+
+abbrev After-put_row : Type 0
+After-put_row = lts.After-put_row tie.the-claims reads.Pre reads.Post
+
+abbrev After-a : Type 0
+After-a = lts.After-a tie.the-claims reads.Pre reads.Post
+
+abbrev After-line_of : Type 0
+After-line_of = lts.After-line_of tie.the-claims reads.Pre reads.Post
+
+abbrev At-loop : Type 0
+At-loop = lts.At-loop tie.the-claims reads.Pre reads.Post
+
+abbrev Start : Type 0
+Start = lts.Start tie.the-claims reads.Pre reads.Post
 
 -- the points of a round in which a line asks for an operation, each from one behind it
-abbrev put : places.After-decode-held invariant_loop decreases_loop → places.After-put_row invariant_loop decreases_loop
+abbrev put : After-decode invariant_loop decreases_loop → After-put_row invariant_loop decreases_loop
 put d = d.before.before.before.before.before.before
 
-abbrev asking : places.After-put_row invariant_loop decreases_loop → places.In-Asks-2 invariant_loop decreases_loop
+abbrev asking : After-put_row invariant_loop decreases_loop → After-a invariant_loop decreases_loop
 asking p = p.before.before.before
 
-abbrev read : places.In-Asks-2 invariant_loop decreases_loop → places.After-line_of invariant_loop decreases_loop
+abbrev read : After-a invariant_loop decreases_loop → After-line_of invariant_loop decreases_loop
 read k = k.before.before
 
-abbrev ended : places.In-Asks-2 invariant_loop decreases_loop → places.After-value_end-end invariant_loop decreases_loop
+abbrev ended : After-a invariant_loop decreases_loop → goal.After-value_end-end invariant_loop decreases_loop
 ended k = (read k).before.before
 
-abbrev round : places.In-Asks-2 invariant_loop decreases_loop → places.At-loop-at invariant_loop decreases_loop
+abbrev round : After-a invariant_loop decreases_loop → At-loop invariant_loop decreases_loop
 round k = (ended k).before.before
 
-abbrev start : places.In-Asks-2 invariant_loop decreases_loop → places.Start invariant_loop decreases_loop
+abbrev start : After-a invariant_loop decreases_loop → Start invariant_loop decreases_loop
 start k = (round k).before.before.before.before
 
-asked : (k : places.In-Asks-2 invariant_loop decreases_loop) → Asked (start k).args.text.now (round k).loop.at (ended k).value-end.result k.a.given.0.0
+asked : (k : After-a invariant_loop decreases_loop) → Asked (start k).args.text.now (round k).loop.at (ended k).value_end.result k.a.given.0.0
 asked k =
     let is = k.a.given.1 in
     let l = (read k).Line-of.ensures in
-    let e = (ended k).value-end.ensures in
+    let e = (ended k).value_end.ensures in
     record {
       short = (start k).requires.1;
       inside = (ended k).before.loop-test.true;
@@ -102,7 +122,7 @@ loop-at-preserved c =
     let at-put-row = put at-decode in
     let k = asking at-put-row in
     let d = at-decode.decode-held.ensures in
-    goes_on_lem (round k).loop.inv (asked k) at-put-row.put-row.ensures d.0 d.1
+    goes_on_lem (round k).loop.inv (asked k) at-put-row.put_row.ensures d.0 d.1
 
 pub returns : goal.returns
 unfolding held_in ListingFits

@@ -21,23 +21,15 @@ use Rattle.desk.proofs.reads.print.Goals as goal
 pub returns-in_default : goal.returns-in_default
 unfolding ascii
 returns-in_default c =
-    let at-put = c.before.before in
-    let at_none = at-put.before.before in
-    let at_number = at_none.before.before in
-    let p = at-put.put_bad_line.ensures in
-    rw (told-first _ (sym at_number.number_at.ensures.0 ∙ at_none.in_default.is)) (p.0, p.1, omega (arith, p.2))
+    let p = c.put_bad_line.ensures in
+    rw (told-first _ (sym c.number_at.ensures.0 ∙ c.in_default.is)) (p.0, p.1, omega (arith, p.2))
 
 pub returns-in_default-digits_at : goal.returns-in_default-digits_at
 unfolding ascii
 returns-in_default-digits_at c =
-    let at-put = c.before.before in
-    let at_none = at-put.before.before in
-    let at-digits = at_none.before.before in
-    let at-format = at-digits.before.before in
-    let at_number = at-format.before.before in
-    let p = at-put.put_bad_line-in_default-digits_at.ensures in
-    let first = sym at_number.number_at.ensures.0 ∙ at-format.in-Value.is in
-    rw (told_second _ _ _ first (sym at-digits.digits_at.ensures.0 ∙ at_none.in_default-digits_at.is)) (p.0, p.1, omega (arith, p.2))
+    let p = c.put_bad_line-in_default-digits_at.ensures in
+    let first = sym c.number_at.ensures.0 ∙ c.in-Value.is in
+    rw (told_second _ _ _ first (sym c.digits_at.ensures.0 ∙ c.in_default-digits_at.is)) (p.0, p.1, omega (arith, p.2))
 
 pub overflow_add-to : goal.overflow_add-to
 overflow_add-to c =
@@ -47,16 +39,10 @@ overflow_add-to c =
 pub returns-then-to-text : goal.returns-then-to-text
 unfolding ascii
 returns-then-to-text c =
-    let at-put = c.before.before in
-    let at-then = at-put.before.before in
-    let at_from = at-then.before.before in
-    let at-digits = at_from.before.before in
-    let at-format = at-digits.before.before in
-    let at_number = at-format.before.before in
-    let p = at-put.put_bad_line-then-to-text.ensures in
-    let first = sym at_number.number_at.ensures.0 ∙ at-format.in-Value.is in
-    let second = sym at-digits.digits_at.ensures.0 ∙ at_from.in-At.is in
-    rw (told_third _ _ _ first _ _ second (omega (arith, at-then.if-to-text.true))) (p.0, p.1, omega (arith, p.2))
+    let p = c.put_bad_line-then-to-text.ensures in
+    let first = sym c.number_at.ensures.0 ∙ c.in-Value.is in
+    let second = sym c.digits_at.ensures.0 ∙ c.in-At.is in
+    rw (told_third _ _ _ first _ _ second (omega (arith, c.if-to-text.true))) (p.0, p.1, omega (arith, p.2))
 
 pub slice_bounds-decode-count : goal.slice_bounds-decode-count
 slice_bounds-decode-count c =
@@ -98,19 +84,11 @@ put_answered-requires c =
 pub returns : goal.returns
 unfolding ascii
 returns c =
-    let at-put = c.before.before in
-    let at-decode = at-put.before.before.before.before in
-    let at-else = at-decode.before.before.before in
-    let at_from = at-else.before.before in
-    let at-digits = at_from.before.before in
-    let at-format = at-digits.before.before in
-    let at_number = at-format.before.before in
-    let at-start = at_number.before.before.before.before in
-    let format = at-format.in-Value.format in
-    let p = at-put.put_answered.ensures in
-    let d = at-decode.decode-n.ensures in
-    let first = sym at_number.number_at.ensures.0 ∙ at-format.in-Value.is in
-    let second = sym at-digits.digits_at.ensures.0 ∙ at_from.in-At.is in
-    let t = taken _ _ _ _ d.0 d.1 (answer-short (digits_lie _ _ _ at_from.in-At.is at_from.digits_at.ensures.1)) in
-    let e = ap (λ (s : List ℕ). answered_lines format s (read_answer format s)) t ∙ sym (told-answer _ _ _ first _ _ second at-else.if-to-text.false) in
-    (p.0 ∙ ap (overwrite at-start.args.out.now 0) e, p.1 ∙ ap length e, p.2)
+    let format = c.in-Value.format in
+    let p = c.put_answered.ensures in
+    let d = c.decode-n.ensures in
+    let first = sym c.number_at.ensures.0 ∙ c.in-Value.is in
+    let second = sym c.digits_at.ensures.0 ∙ c.in-At.is in
+    let t = taken _ _ _ _ d.0 d.1 (answer-short (digits_lie _ _ _ c.in-At.is c.digits_at.ensures.1)) in
+    let e = ap (λ (s : List ℕ). answered_lines format s (read_answer format s)) t ∙ sym (told-answer _ _ _ first _ _ second c.if-to-text.false) in
+    (p.0 ∙ ap (overwrite c.args.out.now 0) e, p.1 ∙ ap length e, p.2)

@@ -10,10 +10,7 @@ use Rattle.desk.proofs.reads.put_read.Goals as goal
 pub returns : goal.returns
 unfolding read_lines ascii
 returns c =
-    let at_results = c.before.before in
-    let at_number = at_results.before.before.before.before in
-    let at-start = at_number.before.before.before.before.before in
-    let p = at-number.put_number-to.ensures in
-    let q = at_results.put_results.ensures in
+    let p = c.put_number-to.ensures in
+    let q = c.put_results.ensures in
     let w = behind (put p.0 p.1) (put q.0 q.1) in
-    (w.memory (omega (arith, q.2, at-start.requires)), w.place ∙ zero-add _, q.2)
+    (w.memory (omega (arith, q.2, c.requires)), w.place ∙ zero-add _, q.2)

@@ -7,10 +7,18 @@ use Rattle.engine.specs.Numbers.{template_start, script_start}
 use Rattle.engine.specs.Promised.{StartFits}
 use Rattle.engine.proofs.Starts.{expanded-start}
 use Rattle.engine.proofs.numbers.script_start.Goals as goal
-use Rattle.engine.proofs.numbers.script_start.Lts as places
+use Rattle.engine.proofs.numbers.script_start.Lts as lts
+use Rattle.engine.proofs.numbers.script_start.Reads as reads
+use Rattle.engine.proofs.numbers.script_start.Tie as tie
+
+abbrev After-template_of : Type 0
+After-template_of = lts.After-template_of tie.the-claims reads.Pre reads.Post
+
+abbrev Start : Type 0
+Start = lts.Start tie.the-claims reads.Pre reads.Post
 
 -- where it starts, from where the template is read
-abbrev start : places.After-template_of → places.Start
+abbrev start : After-template_of → Start
 start c =
     let at-expanded = c.before in
     at-expanded.before.before.before

@@ -22,29 +22,43 @@ use Rattle.engine.proofs.Refusals.{arguments_root}
 use Rattle.octets.proofs.Picks.{told}
 use Rattle.std.proofs.lemmas.Bool.{not_from_false}
 use Rattle.engine.proofs.numbers.start_of.Goals as goal
-use Rattle.engine.proofs.numbers.start_of.Lts as places
+use Rattle.engine.proofs.numbers.start_of.Lts as lts
+use Rattle.engine.proofs.numbers.start_of.Reads as reads
+use Rattle.engine.proofs.numbers.start_of.Tie as tie
+
+abbrev After-sound_card : Type 0
+After-sound_card = lts.After-sound_card tie.the-claims reads.Pre reads.Post
+
+abbrev Start : Type 0
+Start = lts.Start tie.the-claims reads.Pre reads.Post
+
+abbrev After-arguments_fit : Type 0
+After-arguments_fit = lts.After-arguments_fit tie.the-claims reads.Pre reads.Post
+
+abbrev After-least_response : Type 0
+After-least_response = lts.After-least_response tie.the-claims reads.Pre reads.Post
 
 -- where it starts, from past the first test, and past each test the one before it
-abbrev start : places.After-sound_card → places.Start
+abbrev start : After-sound_card → Start
 start c = let at-slices = c.before in at-slices.before.before.before.before
 
-abbrev first : places.Else-not-arguments_fit → places.Else-not-sound_card
+abbrev first : goal.Else-not-arguments_fit → goal.Else-not-sound_card
 first o = o.before.before
 
-abbrev second : places.Else-not-script_fits → places.Else-not-arguments_fit
+abbrev second : goal.Else-not-script_fits → goal.Else-not-arguments_fit
 second o = o.before.before
 
-abbrev third : places.Else-room-least_response → places.Else-not-script_fits
+abbrev third : goal.Else-room-least_response → goal.Else-not-script_fits
 third o = o.before.before.before
 
-abbrev fourth : places.Else-not-mark_fits → places.Else-room-least_response
+abbrev fourth : goal.Else-not-mark_fits → goal.Else-room-least_response
 fourth o = o.before.before
 
-abbrev card_of : places.Start → Card
+abbrev card_of : Start → Card
 card_of s = lent s.args.table.now s.args.files.now s.args.journal.now
 
 -- the arguments with a response memory
-abbrev arguments_of : places.Start → List ℕ → Arguments
+abbrev arguments_of : Start → List ℕ → Arguments
 arguments_of s response =
     record {
       application = s.args.application;
@@ -55,33 +69,33 @@ arguments_of s response =
     }
 
 -- what is known past each test
-sound : (o : places.Else-not-sound_card) → sound_card (card_of (start o.before)) ≡ true
-sound o = told-true o.before.sound-card.ensures o.if1.false
+sound : (o : goal.Else-not-sound_card) → sound_card (card_of (start o.before)) ≡ true
+sound o = told-true o.before.sound_card.ensures o.if1.false
 
-module _ (o : places.After-arguments_fit) (response : List ℕ) where
-  abbrev asked : places.Start
+module _ (o : After-arguments_fit) (response : List ℕ) where
+  abbrev asked : Start
   asked = start o.before.before
 
-  arguments : o.arguments-fit.result ≡ arguments_fit (card_of asked).table (arguments_of asked response)
+  arguments : o.arguments_fit.result ≡ arguments_fit (card_of asked).table (arguments_of asked response)
   arguments =
-      o.arguments-fit.ensures
+      o.arguments_fit.ensures
       ∙ sym (arguments_root (card_of asked).table (card_of asked).files (card-table (card_of asked) (sound o.before)) (arguments_of asked response))
 
-known : (o : places.Else-not-arguments_fit) (response : List ℕ) → let s = start (first o).before in arguments_fit (card_of s).table (arguments_of s response) ≡ true
+known : (o : goal.Else-not-arguments_fit) (response : List ℕ) → let s = start (first o).before in arguments_fit (card_of s).table (arguments_of s response) ≡ true
 known o response = told-true (arguments o.before response) o.if2.false
 
-script : (o : places.Else-not-script_fits) → script_fits (start (first (second o)).before).args.script.now ≡ true
-script o = told-true o.before.script_fits_lem.ensures o.if3.false
+script : (o : goal.Else-not-script_fits) → script_fits (start (first (second o)).before).args.script.now ≡ true
+script o = told-true o.before.script_fits.ensures o.if3.false
 
 -- the least length that was asked for is that of the script's format
-least : (o : places.After-least_response) → let s = start (first (second o.before.before)).before in o.least-response.result ≡ least_response (format_of s.args.format s.args.script.now)
-least o = o.least-response.ensures ∙ ap least_response o.before.format-of.ensures
+least : (o : After-least_response) → let s = start (first (second o.before.before)).before in o.least_response.result ≡ least_response (format_of s.args.format s.args.script.now)
+least o = o.least_response.ensures ∙ ap least_response o.before.format_of.ensures
 
-long : (o : places.Else-room-least_response) (response : List ℕ) → let s = start (first (second (third o))).before in length response ≡ s.args.room → least_response (format_of s.args.format s.args.script.now) ≤ length response
+long : (o : goal.Else-room-least_response) (response : List ℕ) → let s = start (first (second (third o))).before in length response ≡ s.args.room → least_response (format_of s.args.format s.args.script.now) ≤ length response
 long o response e = omega (arith, least o.before, o.if4.false)
 
-mark : (o : places.Else-not-mark_fits) → mark_fits (start (first (second (third (fourth o)))).before).args.journal.now ≡ true
-mark o = told-true o.before.mark_fits_lem.ensures o.if5.false
+mark : (o : goal.Else-not-mark_fits) → mark_fits (start (first (second (third (fourth o)))).before).args.journal.now ≡ true
+mark o = told-true o.before.mark_fits.ensures o.if5.false
 
 pub returns-then-not-sound_card : goal.returns-then-not-sound_card
 unfolding StartFits

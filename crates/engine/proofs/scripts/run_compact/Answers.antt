@@ -6,25 +6,36 @@ use Rattle.command.specs.declared.Format.TheVariants.{Compact}
 use Rattle.engine.specs.Calls.{run_script}
 use Rattle.engine.proofs.Ended.{with_mark_lem, begins, compact-room, compact-waiting, compact-small, compact-gives}
 use Rattle.engine.proofs.scripts.run_compact.Goals as goal
-use Rattle.engine.proofs.scripts.run_compact.Lts as places
+use Rattle.engine.proofs.scripts.run_compact.Lts as lts
+use Rattle.engine.proofs.scripts.run_compact.Reads as reads
+use Rattle.engine.proofs.scripts.run_compact.Tie as tie
+
+abbrev After-mark : Type 0
+After-mark = lts.After-mark tie.the-claims reads.Pre reads.Post
+
+abbrev Start : Type 0
+Start = lts.Start tie.the-claims reads.Pre reads.Post
+
+abbrev After-run : Type 0
+After-run = lts.After-run tie.the-claims reads.Pre reads.Post
 
 -- where it starts, from where the mark is set; its card; and that the script is of bytes
-abbrev start : places.After-mark → places.Start
+abbrev start : After-mark → Start
 start m =
     let at-slices = m.before.before in
     at-slices.before.before.before.before.before
 
-abbrev card_of : places.Start → Card
+abbrev card_of : Start → Card
 card_of s = lent s.args.table.now s.args.files.now s.args.journal.now
 
-small : (m : places.After-mark) → AllBytes (start m).args.script.now
+small : (m : After-mark) → AllBytes (start m).args.script.now
 small m =
     let at-slices = m.before.before in
     let at-script = at-slices.before.before.before.before in
     λ i. (at-script.shared-slice-known.given i).fits
 
 -- where the mark is set, from where the script is run
-abbrev marked : places.After-run-step → places.After-mark
+abbrev marked : After-run → After-mark
 marked c = let at-arguments = c.before.before.before in at-arguments.before.before.before
 
 pub run-step-requires : goal.run-step-requires

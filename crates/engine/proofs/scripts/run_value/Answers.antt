@@ -14,19 +14,30 @@ use Rattle.card.specs.Row.{Card, lent}
 use Rattle.engine.specs.Calls.{run_value}
 use Rattle.engine.proofs.Ended.{with_mark_lem, begins, expanded_longest, expanded-small, value-gives}
 use Rattle.engine.proofs.scripts.run_value.Goals as goal
-use Rattle.engine.proofs.scripts.run_value.Lts as places
+use Rattle.engine.proofs.scripts.run_value.Lts as lts
+use Rattle.engine.proofs.scripts.run_value.Reads as reads
+use Rattle.engine.proofs.scripts.run_value.Tie as tie
+
+abbrev After-mark : Type 0
+After-mark = lts.After-mark tie.the-claims reads.Pre reads.Post
+
+abbrev Start : Type 0
+Start = lts.Start tie.the-claims reads.Pre reads.Post
+
+abbrev After-run : Type 0
+After-run = lts.After-run tie.the-claims reads.Pre reads.Post
 
 -- where it starts, from where the mark is set, and its card
-abbrev start : places.After-mark → places.Start
+abbrev start : After-mark → Start
 start m =
     let at-slices = m.before.before in
     at-slices.before.before.before.before.before
 
-abbrev card_of : places.Start → Card
+abbrev card_of : Start → Card
 card_of s = lent s.args.table.now s.args.files.now s.args.journal.now
 
 -- where the mark is set, from where the room for the answer is made
-abbrev marked : places.After-rapdus-1 → places.After-mark
+abbrev marked : goal.After-rapdus-1 → After-mark
 marked c = c.before.before.before
 
 pub run-g-requires : goal.run-g-requires
@@ -42,7 +53,7 @@ run-g-requires c =
     }
 
 -- where the items were run, from where the gathered bytes are lent
-abbrev ran : places.After-rapdus-3-1 → places.After-run-g
+abbrev ran : goal.After-rapdus-3-1 → After-run
 ran c =
     let at-journal = c.before.before.before.before.before in
     at-journal.before.before.before.before.before.before

@@ -9,10 +9,15 @@ use Rattle.tlv.specs.Lengths.{length_bytes}
 use Rattle.tlv.proofs.Written.{length-few}
 use Rattle.expanded.proofs.Written.{definite-written}
 use Rattle.expanded.proofs.answer.put_definite.Goals as goal
-use Rattle.expanded.proofs.answer.put_definite.Lts as places
+use Rattle.expanded.proofs.answer.put_definite.Lts as lts
+use Rattle.expanded.proofs.answer.put_definite.Reads as reads
+use Rattle.expanded.proofs.answer.put_definite.Tie as tie
+
+abbrev After-count_size : Type 0
+After-count_size = lts.After-count_size tie.the-claims reads.Pre reads.Post
 
 -- the length of what stands behind the first length takes at most three bytes
-few : (k : places.After-count_size-size) → length (length_bytes (2 + (k.count_size.result + length k.before.before.before.args.rapdus.now))) ≤ 3
+few : (k : After-count_size) → length (length_bytes (2 + (k.count_size.result + length k.before.before.before.args.rapdus.now))) ≤ 3
 few k = length-few (2 + (k.count_size.result + length k.before.before.before.args.rapdus.now))
 
 pub copy-requires : goal.copy-requires

@@ -16,7 +16,15 @@ use Rattle.step.specs.Limits.{rapdu_size}
 use Rattle.expanded.specs.Expanded.{rapdu}
 use Rattle.expanded.proofs.Written.{rapdu-written}
 use Rattle.expanded.proofs.answer.put_rapdu.Goals as goal
-use Rattle.expanded.proofs.answer.put_rapdu.Lts as places
+use Rattle.expanded.proofs.answer.put_rapdu.Lts as lts
+use Rattle.expanded.proofs.answer.put_rapdu.Reads as reads
+use Rattle.expanded.proofs.answer.put_rapdu.Tie as tie
+
+abbrev After-put_length : Type 0
+After-put_length = lts.After-put_length tie.the-claims reads.Pre reads.Post
+
+abbrev After-out3 : Type 0
+After-out3 = lts.After-out3 tie.the-claims reads.Pre reads.Post
 
 pub fill-requires : goal.fill-requires
 unfolding rapdu_size
@@ -34,18 +42,18 @@ put_length-from-requires c =
     (omega arith, omega arith)
 
 -- where the data begin
-from : (k : places.After-put_length-from)
+from : (k : After-put_length)
     → let to_start = k.before.before.before.before.before in
     let s = to_start.before.before.before.before.before in
     k.put_length.result ≡ s.args.at + 1 + length (length_bytes (data_count s.args.o + 2))
 from k =
     let to_start = k.before.before.before.before.before in
     let s = to_start.before.before.before.before.before in
-    let n : k.before.data-count.result ≡ data_count s.args.o = k.before.data-count.ensures in
+    let n : k.before.data_count.result ≡ data_count s.args.o = k.before.data_count.ensures in
     rw n at k.put_length.ensures.1
 
 -- the points of the walk, from where the data are written back to where their length is
-abbrev from-put_data : places.After-out-3-1 → places.After-put_length-from
+abbrev from-put_data : After-out3 → After-put_length
 from-put_data c = c.before.before.before.before.before
 
 pub put_data-end-requires : goal.put_data-end-requires

@@ -8,26 +8,46 @@ use Rattle.octets.proofs.Picks.{le_yes, le_no}
 use Rattle.expanded.proofs.Fits.{read, Told, command-told}
 use Rattle.octets.proofs.Picks.{told}
 use Rattle.expanded.proofs.capdu.command_of.Goals as goal
-use Rattle.expanded.proofs.capdu.command_of.Lts as places
+use Rattle.expanded.proofs.capdu.command_of.Lts as lts
+use Rattle.expanded.proofs.capdu.command_of.Reads as reads
+use Rattle.expanded.proofs.capdu.command_of.Tie as tie
+
+abbrev After-fifth : Type 0
+After-fifth = lts.After-fifth tie.the-claims reads.Pre reads.Post
+
+abbrev After-wide3 : Type 0
+After-wide3 = lts.After-wide3 tie.the-claims reads.Pre reads.Post
+
+abbrev After-wide2 : Type 0
+After-wide2 = lts.After-wide2 tie.the-claims reads.Pre reads.Post
+
+abbrev After-wide : Type 0
+After-wide = lts.After-wide tie.the-claims reads.Pre reads.Post
+
+abbrev After-case_by_size : Type 0
+After-case_by_size = lts.After-case_by_size tie.the-claims reads.Pre reads.Post
+
+abbrev Start : Type 0
+Start = lts.Start tie.the-claims reads.Pre reads.Post
 
 -- the points of the walk, each from the one behind it
-abbrev at_wide3 : places.After-fifth → places.After-wide-3
+abbrev at_wide3 : After-fifth → After-wide3
 at_wide3 c = c.before.before.before
 
-abbrev at_wide2 : places.After-fifth → places.After-wide-2
+abbrev at_wide2 : After-fifth → After-wide2
 at_wide2 c = (at_wide3 c).before.before
 
-abbrev at_wide : places.After-fifth → places.After-wide
+abbrev at_wide : After-fifth → After-wide
 at_wide c = (at_wide2 c).before.before
 
-abbrev at_case : places.After-fifth → places.After-case_by_size-case
+abbrev at_case : After-fifth → After-case_by_size
 at_case c = (at_wide c).before.before
 
-abbrev start : places.After-fifth → places.Start
+abbrev start : After-fifth → Start
 start c = (at_case c).before.before
 
 -- the command, with its case and its bytes, wherever its data lie
-told : (c : places.After-fifth) {from size : ℕ}
+told : (c : After-fifth) {from size : ℕ}
     → from ≡ pick (leb 3 c.case_by_size-case.result) 5 4
     → size ≡ pick (leb 3 c.case_by_size-case.result) (byte c.args.capdu.now 4) 0
     → Told c.args.capdu.now (read c.case_by_size-case.result c.wide.result c.wide-2.result c.wide-3.result c.wide-4.result c.fifth.result from size)

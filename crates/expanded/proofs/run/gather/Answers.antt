@@ -10,14 +10,22 @@ use Rattle.step.specs.Limits.{rapdu_size}
 use Rattle.expanded.specs.Expanded.{rapdu, gathered_in}
 use Rattle.expanded.proofs.Written.{rapdu-length}
 use Rattle.expanded.proofs.run.gather.Goals as goal
-use Rattle.expanded.proofs.run.gather.Lts as places
+use Rattle.expanded.proofs.run.gather.Lts as lts
+use Rattle.expanded.proofs.run.gather.Reads as reads
+use Rattle.expanded.proofs.run.gather.Tie as tie
+
+abbrev After-put_rapdu : Type 0
+After-put_rapdu = lts.After-put_rapdu tie.the-claims reads.Pre reads.Post
+
+abbrev Start : Type 0
+Start = lts.Start tie.the-claims reads.Pre reads.Post
 
 -- where it starts, from where the R-APDU was written
-abbrev start : places.After-put_rapdu-end → places.Start
+abbrev start : After-put_rapdu → Start
 start c = c.before.before.before.before.before
 
 -- the bytes of the R-APDU
-sized : (c : places.After-put_rapdu-end) → let a = c.args in length (rapdu (data_of a.o a.files.now a.waiting.now) (word_of a.o)) ≡ rapdu_size (data_count a.o)
+sized : (c : After-put_rapdu) → let a = c.args in length (rapdu (data_of a.o a.files.now a.waiting.now) (word_of a.o)) ≡ rapdu_size (data_count a.o)
 sized c =
     let s = start c in
     let a = s.args in

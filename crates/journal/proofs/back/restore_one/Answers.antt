@@ -13,15 +13,20 @@ use Rattle.journal.specs.Changes.{memory_of, with_memory}
 use Rattle.journal.proofs.Entries.{readable-fits}
 use Rattle.journal.proofs.GivenBack.{from-table, from_files, fits_back, given_back}
 use Rattle.journal.proofs.back.restore_one.Goals as goal
-use Rattle.journal.proofs.back.restore_one.Lts as places
+use Rattle.journal.proofs.back.restore_one.Lts as lts
+use Rattle.journal.proofs.back.restore_one.Reads as reads
+use Rattle.journal.proofs.back.restore_one.Tie as tie
 
-abbrev whole : places.Start → Card
+abbrev Start : Type 0
+Start = lts.Start tie.the-claims reads.Pre reads.Post
+
+abbrev whole : Start → Card
 whole s = lent s.args.table.now s.args.files.now s.args.journal.now
 
 pub tail_at-tail-requires : goal.tail_at-tail-requires
 tail_at-tail-requires c = omega (arith, readable-fits c.args.journal.now c.args.u refl c.requires.1)
 
-no_longer : (c : places.After-tail_at-tail) → entry_bytes c.tail_at-tail.result.size ≤ c.args.u
+no_longer : (c : goal.After-tail_at-tail) → entry_bytes c.tail_at-tail.result.size ≤ c.args.u
 no_longer c = readable-fits _ _ c.tail_at-tail.ensures.0 c.requires.1
 
 pub overflow_sub-at : goal.overflow_sub-at

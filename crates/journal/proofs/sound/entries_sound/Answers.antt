@@ -14,7 +14,6 @@ use Rattle.journal.proofs.Tested.{sound-starts, sound_ends, sound_stuck, sound-f
 use Rattle.octets.proofs.Picks.{told}
 use Rattle.std.proofs.lemmas.Bool.{not_from_true}
 use Rattle.journal.proofs.sound.entries_sound.Goals as goal
-use Rattle.journal.proofs.sound.entries_sound.Lts as places
 
 pub loop-u-init : goal.loop-u-init
 loop-u-init c = let a = c.args in (omega arith, sound-starts a.table.now a.files a.scripts (entries_back a.used a.journal.now a.used))
@@ -25,7 +24,7 @@ returns-then-not-is_readable c =
     let l = c.loop-u in
     sound_stuck a.table.now a.files a.scripts a.journal.now l.u l.marks l.oldest l.invariant.1 c.loop-u-test.true (told c.is_readable.ensures c.if-not-is_readable.true)
 
-can_read : (c : places.Else-not-is_readable invariant_loop decreases_loop) → readable c.args.journal.now c.loop-u.u ≡ true
+can_read : (c : goal.Else-not-is_readable invariant_loop decreases_loop) → readable c.args.journal.now c.loop-u.u ≡ true
 can_read c = told-true c.is_readable.ensures (not_from_true _ c.if-not-is_readable.false)
 
 pub entry_sound-requires : goal.entry_sound-requires

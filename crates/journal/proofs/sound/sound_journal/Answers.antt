@@ -19,14 +19,22 @@ use Rattle.journal.proofs.Pushed.{own_used, own_scripts, own_flag}
 use Rattle.journal.proofs.Tested.{journal_tests, journal_short_lem, journal_test, rest_test, entries_test}
 use Rattle.std.proofs.lemmas.Bool.{not_from_true, not_from_false}
 use Rattle.journal.proofs.sound.sound_journal.Goals as goal
-use Rattle.journal.proofs.sound.sound_journal.Lts as places
+use Rattle.journal.proofs.sound.sound_journal.Lts as lts
+use Rattle.journal.proofs.sound.sound_journal.Reads as reads
+use Rattle.journal.proofs.sound.sound_journal.Tie as tie
+
+abbrev After-head_of : Type 0
+After-head_of = lts.After-head_of tie.the-claims reads.Pre reads.Post
+
+abbrev After-shared_slice_known3 : Type 0
+After-shared_slice_known3 = lts.After-shared_slice_known3 tie.the-claims reads.Pre reads.Post
 
 pub returns-then-journal-ne-JOURNAL_LENGTH : goal.returns-then-journal-ne-JOURNAL_LENGTH
 returns-then-journal-ne-JOURNAL_LENGTH c = let a = c.args in journal_short_lem a.table.now a.files.now a.journal.now c.if-journal-ne-JOURNAL_LENGTH.true
 
 -- what is known once the head is read
-module _ (k : places.After-head_of-head) where
-  abbrev known : places.After-shared_slice_known-3-1
+module _ (k : After-head_of) where
+  abbrev known : After-shared_slice_known3
   known = k.before.before
 
   abbrev table : List ℕ
@@ -62,14 +70,14 @@ returns-then-scripts-gt-MOST_SCRIPTS c =
     rw (tests k, lt-leb (scripts_on_trial (journal k)) most_scripts (omega (arith, own_scripts (journal k) (own k), at_wide.wide-scripts.ensures.0, c.if-scripts-gt-MOST_SCRIPTS.true))) (simp and-false)
 
 -- past the first four tests
-module _ (o : places.Else-scripts-gt-MOST_SCRIPTS) where
-  abbrev at_else3 : places.Else-room_of-used
+module _ (o : goal.Else-scripts-gt-MOST_SCRIPTS) where
+  abbrev at_else3 : goal.Else-room_of-used
   at_else3 = o.before.before
 
-  abbrev at_else2 : places.Else-head-ne0
+  abbrev at_else2 : goal.Else-head-ne0
   at_else2 = at_else3.before.before
 
-  abbrev at_head_of : places.After-head_of-head
+  abbrev at_head_of : After-head_of
   at_head_of = at_else2.before.before
 
   used-inside : head_size + at_head_of.head_of.result.used ≤ length (journal at_head_of)

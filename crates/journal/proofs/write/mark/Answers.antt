@@ -12,7 +12,4 @@ close-requires c = omega (arith, own_used _ c.head_of-head.ensures.0, c.requires
 
 pub returns : goal.returns
 returns c =
-    let at-close = c.before.before in
-    let at_head_of = at-close.before.before.before in
-    let s = at_head_of.before.before.before in
-    mark_steps s.args.journal.now at-head-of.head_of-head.ensures.0 s.requires.0 at-close.close.ensures.0
+    mark_steps c.args.journal.now c.head_of-head.ensures.0 c.requires.0 c.close.ensures.0

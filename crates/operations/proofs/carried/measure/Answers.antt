@@ -1,25 +1,17 @@
 -- `operations::carried::measure` meets its contract. The loop's invariant: the first operation that is not carried is among those that are
 -- left from i on, and the bytes so far and those of the operations that are left are the whole. Assumes nothing.
-use mathlib.Core.Path.{◌≡◌, sym, ap, ◌∙◌}
-use mathlib.Core.List.{List}
-use Prim.Native.Nat.{ℕ, ◌+◌, ◌*◌, ◌-◌, ◌≤◌}
+use mathlib.Core.Path.{sym, ap, ◌∙◌}
+use Prim.Native.Nat.{◌-◌}
 use native.Mathlib.Omega.{arith}
 use lib.ListN.{length}
 use borrow.Author.Tests.{le-leb}
-use Rattle.operations.specs.Rows.{operations_of}
 use Rattle.operations.specs.Carried.{first_not_carried}
-use Rattle.operations.specs.Sizes.{all_size, most_written}
-use Rattle.operations.proofs.Left.{left, all_left, few}
+use Rattle.operations.specs.Sizes.{all_size}
+use Rattle.operations.proofs.Left.{all_left, few}
 use Rattle.operations.proofs.Carrying.{all-carried, goes_on_lem, stops_here, no_format}
 use Rattle.operations.proofs.Counted.{written-within, size_ends, size-goes_on}
 use Rattle.std.proofs.lemmas.Bool.{not_from_true, not_from_false}
 use Rattle.operations.proofs.carried.measure.Goals as goal
-
-record Measuring (format size : ℕ) (list : List ℕ) (n written i : ℕ) : Type 0 where
-  within : i ≤ n
-  first : first_not_carried format size (i + 1) (left list n i) ≡ first_not_carried format size 1 (operations_of list)
-  sized : written + all_size format (left list n i) ≡ all_size format (operations_of list)
-  small : written ≤ i * most_written
 
 pub returns-then-format-gt1 : goal.returns-then-format-gt1
 returns-then-format-gt1 c =
@@ -52,7 +44,7 @@ is_carried-requires c =
 pub returns-then-not-is_carried : goal.returns-then-not-is_carried
 returns-then-not-is_carried c =
     let is = c.operation_at-o.ensures.0 in
-    let here = stops_here _ _ _ _ _ (omega arith) is c.is_carried.ensures (not_from_false _ c.if-not-is_carried.true) in
+    let here = stops_here _ _ _ _ _ (omega arith) is c.is_carried_lem.ensures (not_from_false _ c.if-not-is_carried.true) in
     record {
       bad = here ∙ c.loop-i.invariant.first;
       few = omega (arith, few (length c.args.list.now) c.requires);
@@ -73,7 +65,7 @@ loop-i-preserved c =
     let n = c.operations_in-n.result in
     let i = c.loop-i.i in
     let is = c.operation_at-o.ensures.0 in
-    let on = goes_on_lem _ _ _ _ _ (omega arith) is c.is_carried.ensures (not_from_true _ c.if-not-is_carried.false) in
+    let on = goes_on_lem _ _ _ _ _ (omega arith) is c.is_carried_lem.ensures (not_from_true _ c.if-not-is_carried.false) in
     let more = size-goes_on a.format a.list.now n i (omega arith) is c.written_size-written.ensures in
     let w = written-within a.format c.operation_at-o.result in
     record {

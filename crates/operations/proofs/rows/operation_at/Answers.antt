@@ -5,22 +5,19 @@ use Rattle.operations.proofs.rows.operation_at.Goals as goal
 pub returns : goal.returns
 unfolding operation_at
 returns c =
-    let at-num-at2 = c.before in
-    let at-num-at = at-num-at2.before in
-    let at_wide2 = at-num-at.before in
-    let at_wide = at_wide2.before.before in (
+    (
       λ i. record {
-        kind = at_wide.wide-kind.ensures.0 i;
-        mode = at-wide2.wide-mode.ensures.0 i;
-        number = at-num-at.num_at-number.ensures.0 i;
-        from = at-num-at2.num_at-from.ensures.0 i;
+        kind = c.wide-kind.ensures.0 i;
+        mode = c.wide-mode.ensures.0 i;
+        number = c.num_at-number.ensures.0 i;
+        from = c.num_at-from.ensures.0 i;
         count = c.num_at-count.ensures.0 i;
       },
       record {
-        kind = at_wide.wide-kind.ensures.1;
-        mode = at-wide2.wide-mode.ensures.1;
-        number = at-num-at.num_at-number.ensures.1;
-        from = at-num-at2.num_at-from.ensures.1;
+        kind = c.wide-kind.ensures.1;
+        mode = c.wide-mode.ensures.1;
+        number = c.num_at-number.ensures.1;
+        from = c.num_at-from.ensures.1;
         count = c.num_at-count.ensures.1;
       },
     )

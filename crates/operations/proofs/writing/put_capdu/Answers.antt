@@ -10,7 +10,24 @@ use Rattle.operations.specs.Sizes.{capdu_size, tlv_size}
 use Rattle.operations.proofs.Counted.{capdu-within, tlv_within}
 use Rattle.operations.proofs.Scripted.{le_there, le_none, capdu_size_lem, capdu-written}
 use Rattle.operations.proofs.writing.put_capdu.Goals as goal
-use Rattle.operations.proofs.writing.put_capdu.Lts as places
+use Rattle.operations.proofs.writing.put_capdu.Lts as lts
+use Rattle.operations.proofs.writing.put_capdu.Reads as reads
+use Rattle.operations.proofs.writing.put_capdu.Tie as tie
+
+abbrev After-has_le : Type 0
+After-has_le = lts.After-has_le tie.the-claims reads.Pre reads.Post
+
+abbrev After-put_command : Type 0
+After-put_command = lts.After-put_command tie.the-claims reads.Pre reads.Post
+
+abbrev After-put_length : Type 0
+After-put_length = lts.After-put_length tie.the-claims reads.Pre reads.Post
+
+abbrev Start : Type 0
+Start = lts.Start tie.the-claims reads.Pre reads.Post
+
+abbrev Then1 : Type 0
+Then1 = lts.Then1 tie.the-claims reads.Pre reads.Post
 
 pub fill-requires : goal.fill-requires
 fill-requires c =
@@ -23,22 +40,22 @@ put_length-from-requires c =
     (omega arith, omega arith)
 
 -- the points of the walk, back to the start
-abbrev from_le : places.After-has_le → places.After-put_command-end
+abbrev from_le : After-has_le → After-put_command
 from_le c = c.before.before.before
 
-abbrev from-command : places.After-put_command-end → places.After-put_length-from
+abbrev from-command : After-put_command → After-put_length
 from-command c = c.before.before.before.before
 
-abbrev from-length : places.After-put_length-from → places.Start
+abbrev from-length : After-put_length → Start
 from-length c =
     let at_fill_lem = c.before.before.before.before.before in
     at_fill_lem.before.before.before.before
 
 -- where the command begins
-begins : (k : places.After-put_length-from)
+begins : (k : After-put_length)
     → let s = from-length k in
     k.put_length.result ≡ s.args.at + 1 + length (length_bytes (capdu_size s.args.o))
-begins k = rw k.before.capdu_size_lem.ensures at k.put_length.ensures.1
+begins k = rw k.before.capdu_size.ensures at k.put_length.ensures.1
 
 pub put_command-end-requires : goal.put_command-end-requires
 unfolding tlv_size
@@ -50,9 +67,9 @@ put_command-end-requires c =
     (s.pre.0, omega arith)
 
 -- there is room for Le
-le_fits : (k : places.Then-has_le)
+le_fits : (k : Then1)
     → let at-command = from_le k.before in
-    at-command.put-command.result + 1 ≤ length (from-length (from-command at-command)).args.out.now
+    at-command.put_command.result + 1 ≤ length (from-length (from-command at-command)).args.out.now
 unfolding tlv_size
 le_fits k =
     let at-command = from_le k.before in
@@ -60,7 +77,7 @@ le_fits k =
     let s = from-length at_length in
     let b = begins at_length in
     let z = capdu_size_lem s.args.o in
-    let l = ap length (le_there s.args.o.kind (told k.before.has-le.ensures k.if1.true)) in
+    let l = ap length (le_there s.args.o.kind (told k.before.has_le.ensures k.if1.true)) in
     omega arith
 
 pub fill-requires-then-has_le : goal.fill-requires-then-has_le

@@ -14,7 +14,18 @@ use Rattle.tlv.proofs.Written.{length_some}
 use Rattle.operations.proofs.Counted.{size-some}
 use Rattle.operations.proofs.Scripted.{all-length, tagged, compact-script, template-script, compact_size_lem, template-size}
 use Rattle.operations.proofs.writing.put_script.Goals as goal
-use Rattle.operations.proofs.writing.put_script.Lts as places
+use Rattle.operations.proofs.writing.put_script.Lts as lts
+use Rattle.operations.proofs.writing.put_script.Reads as reads
+use Rattle.operations.proofs.writing.put_script.Tie as tie
+
+abbrev After-put_length : Type 0
+After-put_length = lts.After-put_length tie.the-claims reads.Pre reads.Post
+
+abbrev Else1 : Type 0
+Else1 = lts.Else1 tie.the-claims reads.Pre reads.Post
+
+abbrev Start : Type 0
+Start = lts.Start tie.the-claims reads.Pre reads.Post
 
 pub put_all-requires : goal.put_all-requires
 put_all-requires c =
@@ -26,16 +37,16 @@ returns-then-format-eq0 c =
     c.put_all.ensures ∙ ap (overwrite c.args.out.now 0) (compact-script _ _ _ c.if-format-eq0.true)
 
 -- the points of the walk, back to the start
-abbrev from-length : places.After-put_length-from → places.Else-format-eq0
+abbrev from-length : After-put_length → Else1
 from-length c =
     let at_fill_lem = c.before.before.before.before in
     at_fill_lem.before.before
 
-abbrev from_else : places.Else-format-eq0 → places.Start
+abbrev from_else : Else1 → Start
 from_else c = c.before.before.before.before
 
 -- the template has room
-template_fits_lem : (k : places.Else-format-eq0)
+template_fits_lem : (k : Else1)
     → let s = from_else k in
     let n = s.args.size in
     (1 + length (length_bytes n) + n ≤ length s.args.out.now) × (1 + length (length_bytes n) + n ≤ longest_script)

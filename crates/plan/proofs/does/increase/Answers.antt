@@ -18,11 +18,19 @@ use Rattle.plan.specs.Promised.{writes_of, Fits, newest_of}
 use Rattle.plan.proofs.Inside.{none-fits, newest-fits}
 use Rattle.plan.proofs.Sums.{Raised, sum-fails, sum_done, new-bytes, new-size, new-writes}
 use Rattle.plan.proofs.does.increase.Goals as goal
-use Rattle.plan.proofs.does.increase.Lts as places
+use Rattle.plan.proofs.does.increase.Lts as lts
+use Rattle.plan.proofs.does.increase.Reads as reads
+use Rattle.plan.proofs.does.increase.Tie as tie
+
+abbrev After-record_offset : Type 0
+After-record_offset = lts.After-record_offset tie.the-claims reads.Pre reads.Post
+
+abbrev Start : Type 0
+Start = lts.Start tie.the-claims reads.Pre reads.Post
 
 -- the file, in the terms of the code
-module _ (c : places.After-record_offset) where
-  abbrev start : places.Start
+module _ (c : After-record_offset) where
+  abbrev start : Start
   start = c.before.before.before.before
 
   raised : (f : File) → f.row ≡ start.args.r → f.entry ≡ start.args.s.file → f.content ≡ part start.args.files.now start.args.r.start start.args.r.size → Raised start.args.files.now start.args.s start.args.r c.record_offset.result f

@@ -18,11 +18,19 @@ use Rattle.plan.specs.Plans as plans
 use Rattle.plan.specs.Promised.{writes_of}
 use Rattle.plan.proofs.Made.{write-short, searched-none, searched-some}
 use Rattle.plan.proofs.does.search_records.Goals as goal
-use Rattle.plan.proofs.does.search_records.Lts as places
+use Rattle.plan.proofs.does.search_records.Lts as lts
+use Rattle.plan.proofs.does.search_records.Reads as reads
+use Rattle.plan.proofs.does.search_records.Tie as tie
+
+abbrev After-search : Type 0
+After-search = lts.After-search tie.the-claims reads.Pre reads.Post
+
+abbrev Start : Type 0
+Start = lts.Start tie.the-claims reads.Pre reads.Post
 
 -- what is found, as the code names it and as the definition does
-module _ (c : places.After-search-n) where
-  abbrev start : places.Start
+module _ (c : After-search) where
+  abbrev start : Start
   start = let at-record-of = c.before.before.before in at-record-of.before.before.before.before
 
   abbrev found : List ℕ

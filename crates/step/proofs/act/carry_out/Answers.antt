@@ -7,10 +7,15 @@ use Rattle.session.specs.Session.{session_of}
 use Rattle.step.specs.Steps.{carried_out, moved_to}
 use Rattle.plan.specs.Promised.{plan_of}
 use Rattle.step.proofs.act.carry_out.Goals as goal
-use Rattle.step.proofs.act.carry_out.Lts as places
+use Rattle.step.proofs.act.carry_out.Lts as lts
+use Rattle.step.proofs.act.carry_out.Reads as reads
+use Rattle.step.proofs.act.carry_out.Tie as tie
+
+abbrev Start : Type 0
+Start = lts.Start tie.the-claims reads.Pre reads.Post
 
 -- where it starts, from where the decision is known
-abbrev start : places.After-struct_known-1 → places.Start
+abbrev start : goal.After-struct_known-1 → Start
 start c =
     let at-slices = c.before.before.before.before in
     at-slices.before.before.before.before
@@ -19,11 +24,11 @@ pub perform-requires : goal.perform-requires
 perform-requires c = (start c.before.before.before).requires.0
 
 -- what was made is as long as the decision says
-made_long : (c : places.After-struct_known-1) → length (take (start c).args.d.made (start c).args.made.now) ≡ (start c).args.d.made
+made_long : (c : goal.After-struct_known-1) → length (take (start c).args.d.made (start c).args.made.now) ≡ (start c).args.d.made
 made_long c = length-take-le (start c).args.d.made (start c).args.made.now (omega (arith, cast-n c, (start c).requires.0.made))
 
 -- where the decision is known, from where the change was performed and the arguments of the copy are ready
-abbrev known : tie.After-copy-arg2 → places.After-struct_known-1
+abbrev known : tie.After-copy-arg2 → goal.After-struct_known-1
 known c =
     let at-journal = c.before.before.before in
     let at_table = at-journal.before.before.before.before in

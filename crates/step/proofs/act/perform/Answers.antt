@@ -20,13 +20,21 @@ use Rattle.plan.specs.declared.Change.{Change}
 use Rattle.plan.specs.declared.Change.TheVariants.{SumRecord}
 use Rattle.step.proofs.Acts.{known_fits, known_left, known_steps, one-write, table-write}
 use Rattle.step.proofs.act.perform.Goals as goal
-use Rattle.step.proofs.act.perform.Lts as places
+use Rattle.step.proofs.act.perform.Lts as lts
+use Rattle.step.proofs.act.perform.Reads as reads
+use Rattle.step.proofs.act.perform.Tie as tie
 
-abbrev whole : places.Start → Card
+abbrev Start : Type 0
+Start = lts.Start tie.the-claims reads.Pre reads.Post
+
+abbrev After-slice_known3 : Type 0
+After-slice_known3 = lts.After-slice_known3 tie.the-claims reads.Pre reads.Post
+
+abbrev whole : Start → Card
 whole s = lent s.args.table.now s.args.files.now s.args.journal.now
 
 -- an arm's change: it fits, the journal has room for it, and its writes are those asked
-module _ (s : places.Start) {other : Change} (same : s.args.change ≡ other) where
+module _ (s : Start) {other : Change} (same : s.args.change ≡ other) where
   fits : Fits (length s.args.table.now) (length s.args.files.now) (length s.args.«data».now) other
   fits = known_fits same s.args.«data».now s.args.made.now (length s.args.table.now) (length s.args.files.now) s.requires.fits
 
@@ -37,15 +45,15 @@ module _ (s : places.Start) {other : Change} (same : s.args.change ≡ other) wh
   steps = known_steps same s.args.«data».now s.args.made.now (whole s)
 
 -- a sum stands at the start of what was made
-sum_long : (s : places.Start) (r : NewRecord) → s.args.change ≡ SumRecord r → length (take r.record_length s.args.made.now) ≡ r.record_length
+sum_long : (s : Start) (r : NewRecord) → s.args.change ≡ SumRecord r → length (take r.record_length s.args.made.now) ≡ r.record_length
 unfolding Fits
 sum_long s r same = length-take-le r.record_length s.args.made.now (omega (arith, (fits s same).1, s.requires.made))
 
 -- what the card's lent memories are known to be in front of the arms
-abbrev start : places.After-slice_known-3-1 → places.Start
+abbrev start : After-slice_known3 → Start
 start k = k.before.before.before.before.before
 
-short : (s : places.Start) → length s.args.journal.now ≤ 65535
+short : (s : Start) → length s.args.journal.now ≤ 65535
 short s = omega (arith, s.requires.short)
 
 pub write-requires : goal.write-requires
@@ -55,7 +63,7 @@ write-requires c =
     let at-change = at_head_of.before.before.before in
     let s = start at-change.before.before in
     let same = at-change.in-Content.is in
-    let own = at-head-of.head_of-head.ensures.0 in
+    let own = at_head_of.head_of-head.ensures.0 in
     record {
       inside = (fits s same).0;
       within = (fits s same).1;
@@ -71,7 +79,7 @@ write_record-requires c =
     let at-change = at_head_of.before.before.before in
     let s = start at-change.before.before in
     let same = at-change.in-DataRecord.is in
-    record { fits = (fits s same).0; whole = (fits s same).1; head = at-head-of.head_of-head-in-DataRecord.ensures.0; short = short s; left = left s same }
+    record { fits = (fits s same).0; whole = (fits s same).1; head = at_head_of.head_of-head-in-DataRecord.ensures.0; short = short s; left = left s same }
 
 pub slice_bounds-write_record-end : goal.slice_bounds-write_record-end
 slice_bounds-write_record-end c =
@@ -90,7 +98,7 @@ write_record-requires-in-SumRecord c =
     record {
       fits = (fits s sum.1).0;
       whole = sum_long s sum.0.0 sum.1;
-      head = at-head-of.head_of-head-in-SumRecord.ensures.0;
+      head = at_head_of.head_of-head-in-SumRecord.ensures.0;
       short = short s;
       left = left s sum.1;
     }
@@ -108,7 +116,7 @@ write-requires-in-TableByte c =
     let at-change = at_head_of.before.before.before in
     let s = start at-change.before.before in
     let same = at-change.in-TableByte.is in
-    let own = at-head-of.head_of-head-in-TableByte.ensures.0 in
+    let own = at_head_of.head_of-head-in-TableByte.ensures.0 in
     record {
       inside = omega (arith, (fits s same).0);
       within = omega arith;

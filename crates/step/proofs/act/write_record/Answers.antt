@@ -5,13 +5,24 @@ use Rattle.journal.proofs.Pushed.{own_used}
 use Rattle.plan.specs.Promised.{record_writes}
 use Rattle.step.proofs.Acts.{second_left, record_steps}
 use Rattle.step.proofs.act.write_record.Goals as goal
-use Rattle.step.proofs.act.write_record.Lts as places
+use Rattle.step.proofs.act.write_record.Lts as lts
+use Rattle.step.proofs.act.write_record.Reads as reads
+use Rattle.step.proofs.act.write_record.Tie as tie
+
+abbrev Start : Type 0
+Start = lts.Start tie.the-claims reads.Pre reads.Post
+
+abbrev After-place_of_newest : Type 0
+After-place_of_newest = lts.After-place_of_newest tie.the-claims reads.Pre reads.Post
+
+abbrev After-write : Type 0
+After-write = lts.After-write tie.the-claims reads.Pre reads.Post
 
 -- the points of the walk, from a later one back to an earlier one
-abbrev start : places.After-struct_known-1 → places.Start
+abbrev start : goal.After-struct_known-1 → Start
 start k = let lent = k.before.before.before in lent.before.before.before.before
 
-abbrev from_place : places.After-place_of_newest → places.After-write-next
+abbrev from_place : After-place_of_newest → After-write
 from_place k = let lent = k.before.before in lent.before.before.before.before.before
 
 pub write-next-requires : goal.write-next-requires

@@ -9,16 +9,21 @@ use Rattle.tlv.specs.Promised.{LengthFits}
 use Rattle.tlv.proofs.Fits.{length-told}
 use Rattle.octets.proofs.Picks.{told}
 use Rattle.tlv.proofs.lengths.length_at.Goals as goal
-use Rattle.tlv.proofs.lengths.length_at.Lts as places
+use Rattle.tlv.proofs.lengths.length_at.Lts as lts
+use Rattle.tlv.proofs.lengths.length_at.Reads as reads
+use Rattle.tlv.proofs.lengths.length_at.Tie as tie
+
+abbrev Else1 : Type 0
+Else1 = lts.Else1 tie.the-claims reads.Pre reads.Post
 
 -- what is promised of a length that is the one at the place
-told : (k : places.After-shared_slice_known-1) {l : Length} → l ≡ length_at k.before.args.bytes.now k.before.args.at k.before.args.end → (l ≡ length_at k.before.args.bytes.now k.before.args.at k.before.args.end) × LengthFits k.before.args.at k.before.args.end l
+told : (k : goal.After-shared_slice_known-1) {l : Length} → l ≡ length_at k.before.args.bytes.now k.before.args.at k.before.args.end → (l ≡ length_at k.before.args.bytes.now k.before.args.at k.before.args.end) × LengthFits k.before.args.at k.before.args.end l
 told k = length-told k.before.args.bytes.now (λ i. (k.shared-slice-known.given i).fits) k.before.args.at k.before.args.end
 
-none : (t : places.Then-end-at-lt1) → t.before.before.args.end < t.before.before.args.at + 1
+none : (t : goal.Then-end-at-lt1) → t.before.before.args.end < t.before.before.args.at + 1
 none t = omega arith
 
-here : (o : places.Else-end-at-lt1) → o.before.before.args.at + 1 ≤ o.before.before.args.end
+here : (o : Else1) → o.before.before.args.at + 1 ≤ o.before.before.args.end
 here o = omega arith
 
 pub returns-then-end-at-lt1 : goal.returns-then-end-at-lt1

@@ -4,12 +4,11 @@ use native.Mathlib.Omega.{arith}
 use Rattle.octets.proofs.Picks.{picks}
 use Rattle.tlv.specs.Lengths.{long_length}
 use Rattle.tlv.proofs.lengths.long_length.Goals as goal
-use Rattle.tlv.proofs.lengths.long_length.Lts as places
 
-none : (t : places.Then-end-at-lt2) → t.before.before.args.end < t.before.before.args.at + 2
+none : (t : goal.Then-end-at-lt2) → t.before.before.args.end < t.before.before.args.at + 2
 none t = omega arith
 
-there : (o : places.Else-end-at-lt2) → o.before.before.args.at + 2 ≤ o.before.before.args.end
+there : (o : goal.Else-end-at-lt2) → o.before.before.args.at + 2 ≤ o.before.before.args.end
 there o = omega arith
 
 pub returns-then-end-at-lt2 : goal.returns-then-end-at-lt2

@@ -15,7 +15,4 @@ returns-then-n-lt256 c =
 pub returns : goal.returns
 unfolding bytes2
 returns c =
-    let at-copy2 = c.before.before in
-    let at_else2 = at-copy2.before.before.before in
-    let at-else1 = at_else2.before in
-    named at-else1.args.out.now at-else1.args.at 3 (length_three at-else1.args.n at-else1.if-n-lt128.false at-else2.if-n-lt256.false) refl at-copy2.copy-2.ensures
+    named c.args.out.now c.args.at 3 (length_three c.args.n c.if-n-lt128.false c.if-n-lt256.false) refl c.copy-2.ensures

@@ -4,12 +4,17 @@ use native.Mathlib.Omega.{arith}
 use Rattle.octets.proofs.Picks.{picks}
 use Rattle.tlv.specs.Lengths.{short_length}
 use Rattle.tlv.proofs.lengths.short_length.Goals as goal
-use Rattle.tlv.proofs.lengths.short_length.Lts as places
+use Rattle.tlv.proofs.lengths.short_length.Lts as lts
+use Rattle.tlv.proofs.lengths.short_length.Reads as reads
+use Rattle.tlv.proofs.lengths.short_length.Tie as tie
 
-none : (t : places.Then-end-at-lt1) → t.before.before.args.end < t.before.before.args.at + 1
+abbrev Else1 : Type 0
+Else1 = lts.Else1 tie.the-claims reads.Pre reads.Post
+
+none : (t : goal.Then-end-at-lt1) → t.before.before.args.end < t.before.before.args.at + 1
 none t = omega arith
 
-there : (o : places.Else-end-at-lt1) → o.before.before.args.at + 1 ≤ o.before.before.args.end
+there : (o : Else1) → o.before.before.args.at + 1 ≤ o.before.before.args.end
 there o = omega arith
 
 pub returns-then-end-at-lt1 : goal.returns-then-end-at-lt1

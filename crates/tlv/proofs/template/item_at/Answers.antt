@@ -9,10 +9,15 @@ use Rattle.tlv.proofs.Fits.{item_told}
 use Rattle.octets.proofs.Picks.{told}
 use Rattle.std.proofs.lemmas.Bool.{not_from_true, not_from_false}
 use Rattle.tlv.proofs.template.item_at.Goals as goal
-use Rattle.tlv.proofs.template.item_at.Lts as places
+use Rattle.tlv.proofs.template.item_at.Lts as lts
+use Rattle.tlv.proofs.template.item_at.Reads as reads
+use Rattle.tlv.proofs.template.item_at.Tie as tie
+
+abbrev After-shared_slice_known : Type 0
+After-shared_slice_known = lts.After-shared_slice_known tie.the-claims reads.Pre reads.Post
 
 -- what is promised of an item that is the one at the place
-told : (k : places.After-shared_slice_known-1) {r : Item} → r ≡ item_at k.before.args.script.now k.before.args.at k.before.args.end → (r ≡ item_at k.before.args.script.now k.before.args.at k.before.args.end) × ItemFits k.before.args.at k.before.args.end r
+told : (k : After-shared_slice_known) {r : Item} → r ≡ item_at k.before.args.script.now k.before.args.at k.before.args.end → (r ≡ item_at k.before.args.script.now k.before.args.at k.before.args.end) × ItemFits k.before.args.at k.before.args.end r
 told k = item_told k.before.args.script.now (λ i. (k.shared-slice-known.given i).fits) k.before.args.at k.before.args.end
 
 pub returns-then-end-at : goal.returns-then-end-at

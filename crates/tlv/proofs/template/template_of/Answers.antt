@@ -10,10 +10,15 @@ use Rattle.tlv.specs.Promised.{TemplateFits}
 use Rattle.tlv.proofs.Fits.{template-told}
 use Rattle.octets.proofs.Picks.{told}
 use Rattle.tlv.proofs.template.template_of.Goals as goal
-use Rattle.tlv.proofs.template.template_of.Lts as places
+use Rattle.tlv.proofs.template.template_of.Lts as lts
+use Rattle.tlv.proofs.template.template_of.Reads as reads
+use Rattle.tlv.proofs.template.template_of.Tie as tie
+
+abbrev After-shared_slice_known : Type 0
+After-shared_slice_known = lts.After-shared_slice_known tie.the-claims reads.Pre reads.Post
 
 -- what is promised of a template that is the script's
-told : (k : places.After-shared_slice_known-1) {t : Template} → t ≡ template_of k.before.args.script.now → (t ≡ template_of k.before.args.script.now) × TemplateFits (length k.before.args.script.now) t
+told : (k : After-shared_slice_known) {t : Template} → t ≡ template_of k.before.args.script.now → (t ≡ template_of k.before.args.script.now) × TemplateFits (length k.before.args.script.now) t
 told k = template-told k.before.args.script.now (λ i. (k.shared-slice-known.given i).fits)
 
 pub returns-then-script-lt1 : goal.returns-then-script-lt1
