@@ -17,13 +17,12 @@ abbrev After-wide : Type 0
 After-wide = lts.After-wide tie.the-claims reads.Pre reads.Post
 
 -- no byte is missing: the reading stops where the form of the first byte ends
-by_form : (k : After-wide) (n : ℕ) → n ≡ form_bytes k.wide.result
-    → (let a = k.before.before.before.before.before.args in a.at + n ≡ length_stop a.answer.now a.at a.code)
+by_form : (k : After-wide) (n : ℕ) → n ≡ form_bytes k.wide-first.result
+    → (let a = k.args in a.at + n ≡ length_stop a.answer.now a.at a.code)
 unfolding length_stop
 by_form k n e =
-    let at-else1 = k.before.before.before in
-    let a = at-else1.before.before.args in
-    rw (← k.wide.ensures.0) (eq_no _ _ _ at-else1.if1.false (ap (λ (m : ℕ). a.at + m) e))
+    let a = k.args in
+    rw (← k.wide-first.ensures.0) (eq_no _ _ _ k.if-code-eq-LENGTH_MISSING.false (ap (λ (m : ℕ). a.at + m) e))
 
 pub returns-then-code-eq-LENGTH_MISSING : goal.returns-then-code-eq-LENGTH_MISSING
 unfolding length_stop
@@ -36,12 +35,12 @@ returns-then-answer-at c =
 
 pub returns-then-first-eq129 : goal.returns-then-first-eq129
 unfolding form_bytes
-returns-then-first-eq129 c = by_form c.before 1 (search picks)
+returns-then-first-eq129 c = by_form c.before.before 1 (search picks)
 
 pub returns-then-first-eq130 : goal.returns-then-first-eq130
 unfolding form_bytes
-returns-then-first-eq130 c = by_form c.before.before 2 (search picks)
+returns-then-first-eq130 c = by_form c.before.before.before 2 (search picks)
 
 pub returns : goal.returns
 unfolding form_bytes
-returns c = sym (add-zero _) ∙ by_form c.before.before 0 (search picks)
+returns c = sym (add-zero _) ∙ by_form c.before.before.before 0 (search picks)

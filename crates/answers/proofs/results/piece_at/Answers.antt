@@ -13,7 +13,6 @@ use Rattle.answers.specs.declared.results.Piece.TheVariants.{Bad}
 use Rattle.answers.specs.Results.{rapdu_of, bad_format_of, value_of, piece_at}
 use Rattle.answers.specs.Promised.{SizedFits, PieceFits}
 use Rattle.answers.proofs.Places.{piece_told_lem}
-use Rattle.octets.proofs.Picks.{told}
 use Rattle.answers.proofs.results.piece_at.Goals as goal
 use Rattle.answers.proofs.results.piece_at.Lts as lts
 use Rattle.answers.proofs.results.piece_at.Reads as reads

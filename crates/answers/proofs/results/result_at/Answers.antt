@@ -6,7 +6,6 @@ use Rattle.answers.specs.declared.results.Told.{Told}
 use Rattle.answers.specs.Results.{result_at}
 use Rattle.answers.specs.Promised.{ToldFits}
 use Rattle.answers.proofs.Fits.{result_told}
-use Rattle.octets.proofs.Picks.{told}
 use Rattle.answers.proofs.results.result_at.Goals as goal
 use Rattle.answers.proofs.results.result_at.Lts as lts
 use Rattle.answers.proofs.results.result_at.Reads as reads

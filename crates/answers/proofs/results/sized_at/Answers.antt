@@ -10,11 +10,16 @@ use Rattle.answers.specs.declared.results.Sized.{Sized}
 use Rattle.answers.specs.Results.{sized_by, sized_at}
 use Rattle.answers.specs.Promised.{SizedFits}
 use Rattle.answers.proofs.Places.{sized-told}
-use Rattle.octets.proofs.Picks.{told}
 use Rattle.answers.proofs.results.sized_at.Goals as goal
+use Rattle.answers.proofs.results.sized_at.Lts as lts
+use Rattle.answers.proofs.results.sized_at.Reads as reads
+use Rattle.answers.proofs.results.sized_at.Tie as tie
+
+abbrev After-shared_slice_known : Type 0
+After-shared_slice_known = lts.After-shared_slice_known tie.the-claims reads.Pre reads.Post
 
 -- what is promised of a length that is the one at the place
-told : (k : goal.After-shared_slice_known-1) {r : Sized}
+told : (k : After-shared_slice_known) {r : Sized}
     → (let a = k.before.args in
     r ≡ sized_at a.answer.now a.definite a.end a.at
     → (r ≡ sized_at a.answer.now a.definite a.end a.at) × SizedFits (length a.answer.now) a.at r)

@@ -8,7 +8,6 @@ use Rattle.answers.specs.declared.turns.Turn.{Turn}
 use Rattle.answers.specs.Answers.{went_on, turned_by, turned}
 use Rattle.answers.specs.Promised.{PieceFits, TurnedFits}
 use Rattle.answers.proofs.Places.{turned-told}
-use Rattle.octets.proofs.Picks.{told}
 use Rattle.answers.proofs.turns.turned.Goals as goal
 use Rattle.answers.proofs.turns.turned.Lts as lts
 use Rattle.answers.proofs.turns.turned.Reads as reads

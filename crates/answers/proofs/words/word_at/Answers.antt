@@ -15,4 +15,4 @@ returns-then-answer-at c = search picks
 pub returns-then-has_data : goal.returns-then-has_data
 returns-then-has_data c =
     ap Word c.num_at-word.ensures.0
-    ∙ data_word _ _ (λ i. (c.shared-slice-known.given i).fits) _ (ap has_data (sym c.num_at-word.ensures.0) ∙ sym c.has_data.ensures ∙ c.if-has_data.true) (omega arith)
+    ∙ data_word _ _ (λ i. (c.shared_slice_known-1.given i).fits) _ (ap has_data (sym c.num_at-word.ensures.0) ∙ sym c.has_data.ensures ∙ c.if-has_data.true) (omega arith)

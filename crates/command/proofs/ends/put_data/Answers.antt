@@ -29,7 +29,7 @@ module _ (s : Start) {other : Outcome} (same : s.args.o ≡ other) where
   fits = known_fits same _ s.requires.0
 
   left : s.args.at + data_count other ≤ length s.args.out.now
-  left = known_room same _ _ s.pre.2
+  left = known_room same _ _ s.requires.2
 
   written : {m : List _} → m ≡ overwrite s.args.out.now s.args.at (data_of other s.args.files.now s.args.waiting.now)
       → (m ≡ overwrite s.args.out.now s.args.at (data_of s.args.o s.args.files.now s.args.waiting.now)) × (s.args.at + data_count other ≡ s.args.at + data_count s.args.o)

@@ -20,58 +20,47 @@ use Rattle.journal.proofs.back.restore_one.Tie as tie
 abbrev Start : Type 0
 Start = lts.Start tie.the-claims reads.Pre reads.Post
 
+abbrev After-tail_at : Type 0
+After-tail_at = lts.After-tail_at tie.the-claims reads.Pre reads.Post
+
 abbrev whole : Start → Card
 whole s = lent s.args.table.now s.args.files.now s.args.journal.now
 
 pub tail_at-tail-requires : goal.tail_at-tail-requires
 tail_at-tail-requires c = omega (arith, readable-fits c.args.journal.now c.args.u refl c.requires.1)
 
-no_longer : (c : goal.After-tail_at-tail) → entry_bytes c.tail_at-tail.result.size ≤ c.args.u
+no_longer : (c : After-tail_at) → entry_bytes c.tail_at-tail.result.size ≤ c.args.u
 no_longer c = readable-fits _ _ c.tail_at-tail.ensures.0 c.requires.1
 
 pub overflow_sub-at : goal.overflow_sub-at
-overflow_sub-at c = omega (arith, no_longer c.before)
+overflow_sub-at c = omega (arith, no_longer c.before.before)
 
 pub slice_bounds-copy-end : goal.slice_bounds-copy-end
-slice_bounds-copy-end c = omega (arith, no_longer c.before.before.before.before.before)
+slice_bounds-copy-end c = omega (arith, no_longer c.before.before.before.before.before.before)
 
 pub copy-requires : goal.copy-requires
 unfolding memory_of
 copy-requires c =
-    let at-if1 = c.before.before in
-    let at-tail-at = at-if1.before.before.before.before in
-    let s = at-tail-at.before.before.before.before in
-    let e = at-tail-at.tail_at-tail.ensures.0 in
-    fits_back s.args.journal.now s.args.u e (whole s) (from-table s.args.journal.now s.args.u e at-if1.if-tail-eq-HOLDS_TABLE_BYTE.true) s.requires.2
+    let e = c.tail_at-tail.ensures.0 in
+    fits_back c.args.journal.now c.args.u e (whole c.before.before.before.before.before.before.before.before.before.before.before) (from-table c.args.journal.now c.args.u e c.if-tail-eq-HOLDS_TABLE_BYTE.true) c.requires.2
 
 pub returns-then-tail-eq-HOLDS_TABLE_BYTE : goal.returns-then-tail-eq-HOLDS_TABLE_BYTE
 unfolding memory_of with_memory
 returns-then-tail-eq-HOLDS_TABLE_BYTE c =
-    let at_copy = c.before.before in
-    let at-if1 = at_copy.before.before.before in
-    let at-tail-at = at-if1.before.before.before.before in
-    let s = at-tail-at.before.before.before.before in
-    let e = at-tail-at.tail_at-tail.ensures.0 in
-    given_back s.args.journal.now s.args.u e (whole s) (from-table s.args.journal.now s.args.u e at-if1.if-tail-eq-HOLDS_TABLE_BYTE.true) at_copy.copy.ensures
+    let e = c.tail_at-tail.ensures.0 in
+    given_back c.args.journal.now c.args.u e (whole c.before.before.before.before.before.before.before.before.before.before.before.before.before.before) (from-table c.args.journal.now c.args.u e c.if-tail-eq-HOLDS_TABLE_BYTE.true) c.copy.ensures
 
 pub slice_bounds-copy-end-2 : goal.slice_bounds-copy-end-2
-slice_bounds-copy-end-2 c = omega (arith, no_longer c.before.before.before.before.before)
+slice_bounds-copy-end-2 c = omega (arith, no_longer c.before.before.before.before.before.before)
 
 pub copy-requires-2 : goal.copy-requires-2
 unfolding memory_of
 copy-requires-2 c =
-    let at-if1 = c.before.before in
-    let at-tail-at = at-if1.before.before.before.before in
-    let s = at-tail-at.before.before.before.before in
-    let e = at-tail-at.tail_at-tail.ensures.0 in
-    fits_back s.args.journal.now s.args.u e (whole s) (from_files s.args.journal.now s.args.u e at-if1.if-tail-eq-HOLDS_TABLE_BYTE.false) s.requires.2
+    let e = c.tail_at-tail.ensures.0 in
+    fits_back c.args.journal.now c.args.u e (whole c.before.before.before.before.before.before.before.before.before.before.before) (from_files c.args.journal.now c.args.u e c.if-tail-eq-HOLDS_TABLE_BYTE.false) c.requires.2
 
 pub returns : goal.returns
 unfolding memory_of with_memory
 returns c =
-    let at-copy2 = c.before.before in
-    let at-if1 = at-copy2.before.before.before in
-    let at-tail-at = at-if1.before.before.before.before in
-    let s = at-tail-at.before.before.before.before in
-    let e = at-tail-at.tail_at-tail.ensures.0 in
-    given_back s.args.journal.now s.args.u e (whole s) (from_files s.args.journal.now s.args.u e at-if1.if-tail-eq-HOLDS_TABLE_BYTE.false) at-copy2.copy-2.ensures
+    let e = c.tail_at-tail.ensures.0 in
+    given_back c.args.journal.now c.args.u e (whole c.before.before.before.before.before.before.before.before.before.before.before.before.before.before) (from_files c.args.journal.now c.args.u e c.if-tail-eq-HOLDS_TABLE_BYTE.false) c.copy-2.ensures

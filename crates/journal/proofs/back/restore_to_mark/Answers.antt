@@ -45,4 +45,4 @@ pub loop-tail-preserved : goal.loop-tail-preserved
 loop-tail-preserved c =
     let g = c.loop-tail.invariant in
     let r = c.restore_one in
-    back_goes_on g c.requires.0 c.tail_at-tail.ensures.0 c.if-tail-eq-MARKS_START.false r.auto.0 r.auto.1.0 r.ensures
+    back_goes_on g c.requires.0 c.tail_at-tail.ensures.0 c.if-tail-eq-MARKS_START.false r.auto.table r.auto.files r.ensures

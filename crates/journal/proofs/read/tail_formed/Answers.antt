@@ -3,4 +3,4 @@ use Rattle.journal.proofs.Tested.{formed_test}
 use Rattle.journal.proofs.read.tail_formed.Goals as goal
 
 pub returns : goal.returns
-returns c = formed_test c.args.bytes.now c.requires (λ i. (c.shared-slice-known3.given i).fits)
+returns c = formed_test c.args.bytes.now c.requires (λ i. (c.shared_slice_known-3-1.given i).fits)

@@ -14,6 +14,12 @@ use Rattle.journal.proofs.Tested.{sound-starts, sound_ends, sound_stuck, sound-f
 use Rattle.octets.proofs.Picks.{told}
 use Rattle.std.proofs.lemmas.Bool.{not_from_true}
 use Rattle.journal.proofs.sound.entries_sound.Goals as goal
+use Rattle.journal.proofs.sound.entries_sound.Lts as lts
+use Rattle.journal.proofs.sound.entries_sound.Reads as reads
+use Rattle.journal.proofs.sound.entries_sound.Tie as tie
+
+abbrev Else1 : Type 0
+Else1 = lts.Else1 tie.the-claims reads.Pre reads.Post goal.the-invariant-loop-u goal.the-decreases-loop-u
 
 pub loop-u-init : goal.loop-u-init
 loop-u-init c = let a = c.args in (omega arith, sound-starts a.table.now a.files a.scripts (entries_back a.used a.journal.now a.used))
@@ -24,43 +30,37 @@ returns-then-not-is_readable c =
     let l = c.loop-u in
     sound_stuck a.table.now a.files a.scripts a.journal.now l.u l.marks l.oldest l.invariant.1 c.loop-u-test.true (told c.is_readable.ensures c.if-not-is_readable.true)
 
-can_read : (c : goal.Else-not-is_readable invariant_loop decreases_loop) → readable c.args.journal.now c.loop-u.u ≡ true
+can_read : (c : Else1) → readable c.args.journal.now c.loop-u.u ≡ true
 can_read c = told-true c.is_readable.ensures (not_from_true _ c.if-not-is_readable.false)
 
 pub entry_sound-requires : goal.entry_sound-requires
-entry_sound-requires c = (omega arith, can_read c)
+entry_sound-requires c = (omega arith, can_read c.before)
 
 pub returns-then-not-entry_sound : goal.returns-then-not-entry_sound
 returns-then-not-entry_sound c =
-    let at-point = c.before.before in
-    let a = at-point.args in
-    let l = at-point.loop-u in
-    sound-fails a.table.now a.files a.scripts a.journal.now l.u l.marks l.oldest l.invariant.1 (can_read (at-point)) (told c.entry_sound.ensures c.if-not-entry_sound.true)
+    let a = c.args in
+    let l = c.loop-u in
+    sound-fails a.table.now a.files a.scripts a.journal.now l.u l.marks l.oldest l.invariant.1 (can_read c.before.before.before) (told c.entry_sound.ensures c.if-not-entry_sound.true)
 
 pub tail_at-tail-requires : goal.tail_at-tail-requires
 tail_at-tail-requires c =
-    let at-point = c.before.before in
-    let a = at-point.args in
-    let u = at-point.loop-u.u in
-    omega (arith, readable-fits a.journal.now u refl (can_read (at-point)))
+    let a = c.args in
+    let u = c.loop-u.u in
+    omega (arith, readable-fits a.journal.now u refl (can_read c.before.before.before))
 
 pub one_if_mark-marks-requires : goal.one_if_mark-marks-requires
 one_if_mark-marks-requires c = tt
 
 pub overflow_sub-u : goal.overflow_sub-u
-overflow_sub-u c = readable-fits _ _ c.tail_at-tail.ensures.0 (can_read c.before.before.before.before.before.before)
+overflow_sub-u c = readable-fits _ _ c.tail_at-tail.ensures.0 (can_read c.before.before.before.before.before.before.before)
 
 pub loop-u-preserved : goal.loop-u-preserved
 loop-u-preserved c =
-    let at-tail-at = c.before.before.before in
-    let at-if2 = at-tail-at.before in
-    let at-entry-sound = at-if2.before in
-    let at-point = at-entry-sound.before in
-    let a = at-point.args in
-    let l = at-point.loop-u in
-    let h = can_read (at-point) in (
-      omega (arith, readable-fits a.journal.now l.u at-tail-at.tail_at-tail.ensures.0 h),
-      sound-goes_on a.table.now a.files a.scripts a.journal.now l.u l.marks l.oldest l.invariant.1 h (told at-entry-sound.entry_sound.ensures at-if2.if-not-entry_sound.false) at-tail-at.tail_at-tail.ensures.0 c.one_if_mark-marks.ensures.0,
+    let a = c.args in
+    let l = c.loop-u in
+    let h = can_read c.before.before.before.before.before.before.before in (
+      omega (arith, readable-fits a.journal.now l.u c.tail_at-tail.ensures.0 h),
+      sound-goes_on a.table.now a.files a.scripts a.journal.now l.u l.marks l.oldest l.invariant.1 h (told c.entry_sound.ensures c.if-not-entry_sound.false) c.tail_at-tail.ensures.0 c.one_if_mark-marks.ensures.0,
     )
 
 pub returns : goal.returns

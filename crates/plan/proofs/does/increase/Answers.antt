@@ -38,7 +38,7 @@ module _ (c : After-record_offset) where
       record {
         at = c.record_offset.ensures.0;
         inside = c.record_offset.ensures.1;
-        lies = start.pre.file.inside;
+        lies = start.requires.file.inside;
         row = row;
         entry = entry;
         content = content;
@@ -46,13 +46,10 @@ module _ (c : After-record_offset) where
 
 pub returns-then-carry-ne0 : goal.returns-then-carry-ne0
 returns-then-carry-ne0 c =
-    let at-add = c.before.before.before.before in
-    let at-record-offset = at-add.before.before.before.before in
-    let k = at-record-offset in
-    let a = (start k).args in (
+    let a = (start c.before.before.before.before.before.before.before.before.before).args in (
       λ f row entry content.
           c.failed.ensures.0 a.«data».now _
-          ∙ sum-fails (raised k f row entry content) a.«data».now at-add.add-carry.ensures.0 c.if-carry-ne0.true (plans.increase a.format a.«data».now a.s f),
+          ∙ sum-fails (raised c.before.before.before.before.before.before.before.before.before f row entry content) a.«data».now c.add-carry.ensures.0 c.if-carry-ne0.true (plans.increase a.format a.«data».now a.s f),
       λ t h. none-fits _ _ _ c.failed.ensures.1,
     )
 
@@ -63,24 +60,17 @@ produced-requires c =
 pub returns : goal.returns
 unfolding plans.increase Fits newest_of
 returns c =
-    let at_Target = c.before.before in
-    let at-at-record = at_Target.before in
-    let at_copy = at-at-record.before.before.before in
-    let at-else1 = at_copy.before.before in
-    let at-add = at-else1.before.before.before in
-    let at-record-offset = at-add.before.before.before.before in
-    let k = at-record-offset in
-    let a = (start k).args in
-    let p = (start k).requires in
-    let record-made : c.new_record.result ≡ newest_of a.s.file a.r = c.new_record.ensures ∙ ap (λ e. newest_of e a.r) at_Target.target.ensures in
-    let sum-made = at-add.add-carry.ensures in (
+    let a = (start c.before.before.before.before.before.before.before.before.before.before.before.before.before.before.before.before).args in
+    let p = (start c.before.before.before.before.before.before.before.before.before.before.before.before.before.before.before.before).requires in
+    let record-made : c.new_record.result ≡ newest_of a.s.file a.r = c.new_record.ensures ∙ ap (λ e. newest_of e a.r) c.target.ensures in
+    let sum-made = c.add-carry.ensures in (
       λ f row entry content.
-          let h = raised k f row entry content in
+          let h = raised c.before.before.before.before.before.before.before.before.before.before.before.before.before.before.before.before f row entry content in
           let out = bytes_of f.row.record_length (sum f.row f.content a.«data».now) ++ a.«data».now in
-          let e = new-bytes h a.«data».now a.made.now p.made (omega (arith, p.short, p.fits)) sum-made.1 at_copy.copy.ensures in
-          sum_done h a.«data».now sum-made.0 at-else1.if-carry-ne0.false
+          let e = new-bytes h a.«data».now a.made.now p.made (omega (arith, p.short, p.fits)) sum-made.1 c.copy.ensures in
+          sum_done h a.«data».now sum-made.0 c.if-carry-ne0.false
           (c.produced.ensures.0 a.«data».now _ out a.made.now e (new-size h a.«data».now)
-          ∙ (λ i. produced a.format (at-at-record.at_record-next.ensures i) normal out (writes_of (SumRecord (record-made i)) a.«data».now (e i)))
+          ∙ (λ i. produced a.format (c.at_record-next.ensures i) normal out (writes_of (SumRecord (record-made i)) a.«data».now (e i)))
           ∙ (λ i. produced a.format (at_record a.s 1) normal out (new-writes h a.«data».now a.made.now i))),
       λ t h. rw (c.produced.ensures.1, record-made) (newest-fits t (length a.files.now) a.s.file a.r p.file h, omega (arith, p.short)),
     )

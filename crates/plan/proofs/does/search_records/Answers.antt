@@ -47,34 +47,28 @@ module _ (c : After-search) where
 pub returns-then-n-eq0 : goal.returns-then-n-eq0
 unfolding writes_of
 returns-then-n-eq0 c =
-    let k = c.before.before.before.before in
-    let a = (start k).args in (
+    let a = (start c.before.before.before.before.before).args in (
       λ f row content.
           c.done.ensures.0 a.«data».now _
-          ∙ searched-none a.format a.s (found k) (sym k.search-n.ensures.1 ∙ c.if-n-eq0.true)
-          ∙ as_named k f row content,
+          ∙ searched-none a.format a.s (found c.before.before.before.before.before) (sym c.search-n.ensures.1 ∙ c.if-n-eq0.true)
+          ∙ as_named c.before.before.before.before.before f row content,
       c.done.ensures.1,
     )
 
 pub produced-requires : goal.produced-requires
 produced-requires c =
-    let k = c.before.before.before.before.before.before in
-    let l : length (found k) ≤ length (start k).args.made.now = write-short _ _ (sym (ap length k.search-n.ensures.0) ∙ k.search-n.auto.1.1.1.1.1.0) in
-    (omega (arith, k.search-n.ensures.1, (start k).requires.1.made), omega arith)
+    let l : length (found c.before.before.before.before.before.before.before) ≤ length (start c.before.before.before.before.before.before.before).args.made.now = write-short _ _ (sym (ap length c.search-n.ensures.0) ∙ c.search-n.auto.1.1.1.1.1.0) in
+    (omega (arith, c.search-n.ensures.1, (start c.before.before.before.before.before.before.before).requires.1.made), omega arith)
 
 pub returns : goal.returns
 unfolding writes_of
 returns c =
-    let at_wide = c.before.before in
-    let at-else1 = at_wide.before.before in
-    let at-search = at-else1.before.before.before in
-    let k = at-search in
-    let a = (start k).args in
-    let s = k.search-n.ensures in (
+    let a = (start c.before.before.before.before.before.before.before.before).args in
+    let s = c.search-n.ensures in (
       λ f row content.
-          c.produced.ensures.0 a.«data».now _ (found k) a.made.now s.0 s.1
-          ∙ (λ i. produced a.format (c.at_record-next.ensures i) normal (found k) [])
-          ∙ searched-some a.format a.s a.made.now (found k) _ (λ z. at-else1.if-n-eq0.false (s.1 ∙ z)) (at_wide.wide.ensures.0 ∙ ap (λ (l : List ℕ). byte l 0) s.0)
-          ∙ as_named k f row content,
+          c.produced.ensures.0 a.«data».now _ (found c.before.before.before.before.before.before.before.before) a.made.now s.0 s.1
+          ∙ (λ i. produced a.format (c.at_record-next.ensures i) normal (found c.before.before.before.before.before.before.before.before) [])
+          ∙ searched-some a.format a.s a.made.now (found c.before.before.before.before.before.before.before.before) _ (λ z. c.if-n-eq0.false (s.1 ∙ z)) (c.wide.ensures.0 ∙ ap (λ (l : List ℕ). byte l 0) s.0)
+          ∙ as_named c.before.before.before.before.before.before.before.before f row content,
       c.produced.ensures.1,
     )

@@ -5,6 +5,7 @@ use mathlib.Core.List.{List}
 use Prim.Native.Nat.{ℕ, ◌≤◌}
 use native.Mathlib.Omega.{arith}
 use lib.ListN.{length}
+use borrow.Author.Rules.{rules}
 use borrow.Author.Tests.{eq-eqb, le-leb, leb-false}
 use Rattle.octets.specs.Bytes.{overwrite}
 use Rattle.card.specs.declared.Row.{Row}
@@ -25,13 +26,13 @@ pub of_directory-requires : goal.of_directory-requires
 of_directory-requires c = (sym c.is_directory.ensures ∙ c.if-is_directory.true, c.requires.2)
 
 pub returns-then-is_directory : goal.returns-then-is_directory
-returns-then-is_directory c = put _ _ _ 13 (omega arith) c.copy.ensures (slice-aggregate-copy c.before.before.before) c.of_directory.ensures
+returns-then-is_directory c = put _ _ _ 13 (omega arith) c.copy.ensures (search rules) c.of_directory.ensures
 
 pub of_transparent-requires : goal.of_transparent-requires
 of_transparent-requires c = (eq-eqb _ _ c.if-r-eq-TRANSPARENT.true, c.requires.2)
 
 pub returns-then-r-eq-TRANSPARENT : goal.returns-then-r-eq-TRANSPARENT
-returns-then-r-eq-TRANSPARENT c = put _ _ _ 17 (omega arith) c.copy-then-r-eq-TRANSPARENT.ensures (slice-aggregate-copy-2 c.before.before.before) c.of_transparent.ensures
+returns-then-r-eq-TRANSPARENT c = put _ _ _ 17 (omega arith) c.copy-then-r-eq-TRANSPARENT.ensures (search rules) c.of_transparent.ensures
 
 pub of_records-requires : goal.of_records-requires
 of_records-requires c =
@@ -39,4 +40,4 @@ of_records-requires c =
     (k, c.requires.1, c.requires.2)
 
 pub returns : goal.returns
-returns c = put _ _ _ 20 (omega arith) c.copy-2.ensures (slice-aggregate-copy-3 c.before.before.before) c.of_records.ensures
+returns c = put _ _ _ 20 (omega arith) c.copy-2.ensures (search rules) c.of_records.ensures
