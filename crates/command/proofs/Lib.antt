@@ -2,7 +2,5 @@ pub mod Lent
 pub mod Outgoing
 pub mod Stops
 pub mod Says
-pub mod Readers
-pub mod ReaderCalls
 pub mod Walked
 pub mod Determined

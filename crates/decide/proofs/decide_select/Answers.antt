@@ -31,8 +31,8 @@ Else1 = lts.Else1 tie.the-claims reads.Pre reads.Post
 abbrev Start : Type 0
 Start = lts.Start tie.the-claims reads.Pre reads.Post
 
-abbrev After-e : Type 0
-After-e = lts.After-e tie.the-claims reads.Pre reads.Post
+abbrev Past-After-e : Type 0
+Past-After-e = lts.Past-After-e tie.the-claims reads.Pre reads.Post
 
 pub returns-then-not-path_length_fits : goal.returns-then-not-path_length_fits
 returns-then-not-path_length_fits c = (
@@ -55,9 +55,8 @@ module _ (c : Else1) where
 
 pub find-requires : goal.find-requires
 find-requires c =
-    let k = c.before.before in
-    let s = start k in
-    (s.pre.stands, path_some s.args.c.p1 (length s.args.«data».now) (fitting k))
+    let s = start c.before.before.before in
+    (s.requires.stands, path_some s.args.c.p1 (length s.args.«data».now) (fitting c.before.before.before))
 
 pub returns-in_default : goal.returns-in_default
 returns-in_default c = (
@@ -68,12 +67,12 @@ returns-in_default c = (
 )
 
 -- an entry is found
-module _ (c : After-e) where
+module _ (c : Past-After-e) where
   abbrev found : ℕ
   found = c.in-At.e
 
   abbrev origin : Start
-  origin = start c.before.before.before.before.before
+  origin = start c.before.before.before.before
 
   there : find origin.args.table.now origin.args.s.root origin.args.s.directory origin.args.c.p1 origin.args.«data».now ≡ Found.At found
   there = sym c.find.ensures ∙ c.in-At.is
@@ -104,6 +103,6 @@ returns c =
       λ w so.
           c.select_entry.ensures.0 z.args.«data».now
           ∙ (λ i. select_entry (sym so.same_format i) (sym so.session i) (sym so.command i).p2 e ((c.row_at.ensures.0 ∙ sym (ap (row_found z.args.table.now) (there n)) ∙ sym so.row) i))
-          ∙ select-found w (fitting_so n.before.before.before.before.before w so.command so.same_data) e (so.found ∙ there n) (ap (λ (q : Command). q.instruction) so.command ∙ z.pre.instruction),
+          ∙ select-found w (fitting_so c.before.before.before.before.before.before.before.before.before.before w so.command so.same_data) e (so.found ∙ there n) (ap (λ (q : Command). q.instruction) so.command ∙ z.requires.instruction),
       c.select_entry.ensures.1,
     )

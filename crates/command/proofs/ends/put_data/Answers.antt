@@ -38,78 +38,49 @@ module _ (s : Start) {other : Outcome} (same : s.args.o ≡ other) where
 pub from_files-requires : goal.from_files-requires
 unfolding OutcomeFits
 from_files-requires c =
-    let at-o = c.before.before in
-    let at-start = at-o.before.before.before.before.before in
-    (fits (at-start) at-o.in-FromFiles.is).0
+    (fits c.before.before.before.before.before.before c.in-FromFiles.is).0
 
 pub copy-requires : goal.copy-requires
 unfolding OutcomeFits
 copy-requires c =
-    let at-o = c.before.before.before in
-    let at-start = at-o.before.before.before.before.before in
-    let s = at-start in
-    let k = at-o.o-1.given in
-    rw (c.from_files.ensures, part_length s.args.files.now k.0.1.0 k.0.1.1.0 (fits s k.1).0) (left s k.1)
+    rw (c.from_files.ensures, part_length c.args.files.now c.in-FromFiles.place c.in-FromFiles.n (fits c.before.before.before.before.before.before.before c.in-FromFiles.is).0) (left c.before.before.before.before.before.before.before c.in-FromFiles.is)
 
 pub overflow_add-result : goal.overflow_add-result
 overflow_add-result c =
-    let at-o = c.before.before.before.before.before.before in
-    let at-start = at-o.before.before.before.before.before in
-    omega (arith, left (at-start) at-o.in-FromFiles.is)
+    omega (arith, left c.before.before.before.before.before.before.before.before.before.before c.in-FromFiles.is)
 
 pub from_waiting-requires : goal.from_waiting-requires
 unfolding OutcomeFits
 from_waiting-requires c =
-    let at-o2 = c.before.before in
-    let at-start = at-o2.before.before.before.before.before in
-    let s = at-start in
-    omega (arith, fits s at-o2.in-FromWaiting.is, s.requires.1)
+    omega (arith, fits c.before.before.before.before.before.before c.in-FromWaiting.is, c.requires.1)
 
 pub copy-requires-in-FromWaiting : goal.copy-requires-in-FromWaiting
 unfolding OutcomeFits
 copy-requires-in-FromWaiting c =
-    let at-o2 = c.before.before.before in
-    let at-start = at-o2.before.before.before.before.before in
-    let s = at-start in
-    let k = at-o2.o-in-FromWaiting-1.given in
-    rw (c.from_waiting.ensures, length-take-le k.0.1.0 s.args.waiting.now (omega (arith, fits s k.1, s.requires.1))) (left s k.1)
+    rw (c.from_waiting.ensures, length-take-le c.in-FromWaiting.n c.args.waiting.now (omega (arith, fits c.before.before.before.before.before.before.before c.in-FromWaiting.is, c.requires.1))) (left c.before.before.before.before.before.before.before c.in-FromWaiting.is)
 
 pub overflow_add-result-in-FromWaiting : goal.overflow_add-result-in-FromWaiting
 overflow_add-result-in-FromWaiting c =
-    let at-o2 = c.before.before.before.before.before.before in
-    let at-start = at-o2.before.before.before.before.before in
-    omega (arith, left (at-start) at-o2.in-FromWaiting.is)
+    omega (arith, left c.before.before.before.before.before.before.before.before.before.before c.in-FromWaiting.is)
 
 pub returns-in-Well : goal.returns-in-Well
 unfolding data_of
 returns-in-Well c =
-    let s = c.before.before.before.before.before in
-    let w = written s c.in-Well.is (sym (write-none s.args.out.now s.args.at)) in
+    let w = written c.before.before.before.before.before c.in-Well.is (sym (write-none c.args.out.now c.args.at)) in
     (w.0, omega (arith, w.1))
 
 pub returns-in-FromFiles : goal.returns-in-FromFiles
 unfolding data_of
 returns-in-FromFiles c =
-    let at_copy = c.before.before in
-    let at-from-files = at_copy.before in
-    let at-o = at-from-files.before.before.before in
-    let at-start = at-o.before.before.before.before.before in
-    let s = at-start in
-    written s at-o.in-FromFiles.is (at_copy.copy.ensures ∙ ap (overwrite s.args.out.now s.args.at) at-from-files.from_files.ensures)
+    written c.before.before.before.before.before.before.before.before.before.before c.in-FromFiles.is (c.copy.ensures ∙ ap (overwrite c.args.out.now c.args.at) c.from_files.ensures)
 
 pub returns-in-FromWaiting : goal.returns-in-FromWaiting
 unfolding data_of
 returns-in-FromWaiting c =
-    let at-copy2 = c.before.before in
-    let at-from-waiting = at-copy2.before in
-    let at-o2 = at-from-waiting.before.before.before in
-    let at-start = at-o2.before.before.before.before.before in
-    let s = at-start in
-    written s at-o2.in-FromWaiting.is (at-copy2.copy-in-FromWaiting.ensures ∙ ap (overwrite s.args.out.now s.args.at) at-from-waiting.from_waiting.ensures)
+    written c.before.before.before.before.before.before.before.before.before.before c.in-FromWaiting.is (c.copy-in-FromWaiting.ensures ∙ ap (overwrite c.args.out.now c.args.at) c.from_waiting.ensures)
 
 pub returns-in-Error : goal.returns-in-Error
 unfolding data_of
 returns-in-Error c =
-    let s = c.before.before.before.before.before in
-    let w = written s c.in-Error.is (sym (write-none s.args.out.now s.args.at)) in
+    let w = written c.before.before.before.before.before c.in-Error.is (sym (write-none c.args.out.now c.args.at)) in
     (w.0, omega (arith, w.1))

@@ -26,17 +26,32 @@ Start = lts.Start tie.the-claims reads.Pre reads.Post
 abbrev After-target : Type 0
 After-target = lts.After-target tie.the-claims reads.Pre reads.Post
 
+abbrev Else1 : Type 0
+Else1 = lts.Else1 tie.the-claims reads.Pre reads.Post
+
 abbrev After-kind_fits : Type 0
 After-kind_fits = lts.After-kind_fits tie.the-claims reads.Pre reads.Post
+
+abbrev Else2 : Type 0
+Else2 = lts.Else2 tie.the-claims reads.Pre reads.Post
 
 abbrev After-wrong_mode : Type 0
 After-wrong_mode = lts.After-wrong_mode tie.the-claims reads.Pre reads.Post
 
+abbrev Else3 : Type 0
+Else3 = lts.Else3 tie.the-claims reads.Pre reads.Post
+
 abbrev After-is_shut : Type 0
 After-is_shut = lts.After-is_shut tie.the-claims reads.Pre reads.Post
 
+abbrev Else4 : Type 0
+Else4 = lts.Else4 tie.the-claims reads.Pre reads.Post
+
 abbrev After-is_never : Type 0
 After-is_never = lts.After-is_never tie.the-claims reads.Pre reads.Post
+
+abbrev Else5 : Type 0
+Else5 = lts.Else5 tie.the-claims reads.Pre reads.Post
 
 abbrev After-offset_outside : Type 0
 After-offset_outside = lts.After-offset_outside tie.the-claims reads.Pre reads.Post
@@ -46,6 +61,9 @@ Else6 = lts.Else6 tie.the-claims reads.Pre reads.Post
 
 abbrev After-no_record : Type 0
 After-no_record = lts.After-no_record tie.the-claims reads.Pre reads.Post
+
+abbrev Else7 : Type 0
+Else7 = lts.Else7 tie.the-claims reads.Pre reads.Post
 
 abbrev After-length_fits : Type 0
 After-length_fits = lts.After-length_fits tie.the-claims reads.Pre reads.Post
@@ -63,30 +81,21 @@ Known s = Bound s.args.c s.args.lc s.args.s s.args.r
 abbrev Past : Start → ℕ → Type 0
 Past s n = Left (Known s) bound_checks (drop n bound_checks)
 
-abbrev to_file : After-target → Start
-to_file c = c.before.before.before
-
-file : (c : After-target) → Finds (Known (to_file c)) NoFile (eqb c.target.result 0)
+file : (c : After-target) → Finds (Known c.before.before.before) NoFile (eqb c.target.result 0)
 file c = finds_file _ _ _ _ c.requires.0 c.target.ensures
 
-abbrev from-file : goal.Else-target-eq0 → Start
-from-file c = to_file c.before
-
-past-file : (c : goal.Else-target-eq0) → Past (from-file c) 1
+past-file : (c : Else1) → Past c.before.before.before.before 1
 unfolding bound_checks
-past-file c = passes (all_left (Known (from-file c)) bound_checks) (file c.before) (ne_eqb _ _ c.if-target-eq0.false)
+past-file c = passes (all_left (Known c.before.before.before.before) bound_checks) (file c.before) (ne_eqb _ _ c.if-target-eq0.false)
 
 pub returns-then-target-eq0 : goal.returns-then-target-eq0
 unfolding bound_checks
-returns-then-target-eq0 c = is-first (all_left (Known (to_file c.before)) bound_checks) (file c.before) (eq-eqb _ _ c.if-target-eq0.true)
+returns-then-target-eq0 c = is-first (all_left (Known c.before.before.before.before) bound_checks) (file c.before) (eq-eqb _ _ c.if-target-eq0.true)
 
-kind : (c : After-kind_fits) → Finds (Known (from-file c.before)) WrongKind (not c.kind_fits.result)
+kind : (c : After-kind_fits) → Finds (Known c.before.before.before.before.before) WrongKind (not c.kind_fits.result)
 kind c = finds_kind _ _ _ _ (from-file c.before).requires.0 c.kind_fits.ensures
 
-abbrev from-kind : goal.Else-not-kind_fits → Start
-from-kind c = from-file c.before.before
-
-past-kind : (c : goal.Else-not-kind_fits) → Past (from-kind c) 2
+past-kind : (c : Else2) → Past c.before.before.before.before.before.before 2
 unfolding bound_checks
 past-kind c = passes (past-file c.before.before) (kind c.before) (not_from_true _ c.if-not-kind_fits.false)
 
@@ -94,13 +103,10 @@ pub returns-then-not-kind_fits : goal.returns-then-not-kind_fits
 unfolding bound_checks
 returns-then-not-kind_fits c = is-first (past-file c.before.before) (kind c.before) (not_from_false _ c.if-not-kind_fits.true)
 
-mode : (c : After-wrong_mode) → Finds (Known (from-kind c.before)) WrongMode c.wrong_mode.result
+mode : (c : After-wrong_mode) → Finds (Known c.before.before.before.before.before.before.before) WrongMode c.wrong_mode.result
 mode c = finds_mode _ _ _ _ (from-kind c.before).requires.0 c.wrong_mode.ensures
 
-abbrev from-mode : goal.Else-wrong_mode → Start
-from-mode c = from-kind c.before.before
-
-past-mode : (c : goal.Else-wrong_mode) → Past (from-mode c) 3
+past-mode : (c : Else3) → Past c.before.before.before.before.before.before.before.before 3
 unfolding bound_checks
 past-mode c = passes (past-kind c.before.before) (mode c.before) c.if-wrong_mode.false
 
@@ -108,13 +114,10 @@ pub returns-then-wrong_mode : goal.returns-then-wrong_mode
 unfolding bound_checks
 returns-then-wrong_mode c = is-first (past-kind c.before.before) (mode c.before) c.if-wrong_mode.true
 
-shut : (c : After-is_shut) → Finds (Known (from-mode c.before)) Deactivated c.is_shut.result
+shut : (c : After-is_shut) → Finds (Known c.before.before.before.before.before.before.before.before.before) Deactivated c.is_shut.result
 shut c = finds_shut _ _ _ _ (from-mode c.before).requires.0 c.is_shut.ensures
 
-abbrev from_shut : goal.Else-is_shut → Start
-from_shut c = from-mode c.before.before
-
-past_shut : (c : goal.Else-is_shut) → Past (from_shut c) 4
+past_shut : (c : Else4) → Past c.before.before.before.before.before.before.before.before.before.before 4
 unfolding bound_checks
 past_shut c = passes (past-mode c.before.before) (shut c.before) c.if-is_shut.false
 
@@ -122,13 +125,10 @@ pub returns-then-is_shut : goal.returns-then-is_shut
 unfolding bound_checks
 returns-then-is_shut c = is-first (past-mode c.before.before) (shut c.before) c.if-is_shut.true
 
-never : (c : After-is_never) → Finds (Known (from_shut c.before)) Never c.is_never.result
+never : (c : After-is_never) → Finds (Known c.before.before.before.before.before.before.before.before.before.before.before) Never c.is_never.result
 never c = finds_never _ _ _ _ (from_shut c.before).requires.0 c.is_never.ensures
 
-abbrev from-never : goal.Else-is_never → Start
-from-never c = from_shut c.before.before
-
-past-never : (c : goal.Else-is_never) → Past (from-never c) 5
+past-never : (c : Else5) → Past c.before.before.before.before.before.before.before.before.before.before.before.before 5
 unfolding bound_checks
 past-never c = passes (past_shut c.before.before) (never c.before) c.if-is_never.false
 
@@ -136,14 +136,11 @@ pub returns-then-is_never : goal.returns-then-is_never
 unfolding bound_checks
 returns-then-is_never c = is-first (past_shut c.before.before) (never c.before) c.if-is_never.true
 
-offset : (c : After-offset_outside) → Finds (Known (from-never c.before)) OffsetOutside c.offset_outside.result
+offset : (c : After-offset_outside) → Finds (Known c.before.before.before.before.before.before.before.before.before.before.before.before.before) OffsetOutside c.offset_outside.result
 unfolding offset_of
 offset c = finds_offset _ _ _ _ (from-never c.before).requires.0 c.offset_outside.ensures
 
-abbrev from_offset : Else6 → Start
-from_offset c = from-never c.before.before
-
-past_offset : (c : Else6) → Past (from_offset c) 6
+past_offset : (c : Else6) → Past c.before.before.before.before.before.before.before.before.before.before.before.before.before.before 6
 unfolding bound_checks
 past_offset c = passes (past-never c.before.before) (offset c.before) c.if-offset_outside.false
 
@@ -156,13 +153,10 @@ no_record-requires c =
     let p = c.requires in
     (p.0, p.1, told c.kind_fits.ensures (not-false _ (not_from_true _ c.if-not-kind_fits.false)))
 
-named : (c : After-no_record) → Finds (Known (from_offset c.before.before)) NoRecord c.no_record.result
+named : (c : After-no_record) → Finds (Known c.before.before.before.before.before.before.before.before.before.before.before.before.before.before.before.before) NoRecord c.no_record.result
 named c = finds_record _ _ _ _ (from_offset c.before.before).requires.0 c.no_record.ensures
 
-abbrev from_named : goal.Else-no_record → Start
-from_named c = from_offset c.before.before.before
-
-past-named : (c : goal.Else-no_record) → Past (from_named c) 7
+past-named : (c : Else7) → Past c.before.before.before.before.before.before.before.before.before.before.before.before.before.before.before.before.before 7
 unfolding bound_checks
 past-named c = passes (past_offset c.before.before.before) (named c.before) c.if-no_record.false
 
@@ -170,7 +164,7 @@ pub returns-then-no_record : goal.returns-then-no_record
 unfolding bound_checks
 returns-then-no_record c = is-first (past_offset c.before.before.before) (named c.before) c.if-no_record.true
 
-length : (c : After-length_fits) → Finds (Known (from_named c.before)) WrongLength (not c.length_fits.result)
+length : (c : After-length_fits) → Finds (Known c.before.before.before.before.before.before.before.before.before.before.before.before.before.before.before.before.before.before) WrongLength (not c.length_fits.result)
 unfolding offset_of
 length c = finds_length _ _ _ _ (from_named c.before).requires.0 c.length_fits.ensures
 

@@ -22,20 +22,38 @@ use Rattle.decide.proofs.checks.formal_check.Tie as tie
 abbrev Start : Type 0
 Start = lts.Start tie.the-claims reads.Pre reads.Post
 
+abbrev Else1 : Type 0
+Else1 = lts.Else1 tie.the-claims reads.Pre reads.Post
+
 abbrev After-is_known : Type 0
 After-is_known = lts.After-is_known tie.the-claims reads.Pre reads.Post
+
+abbrev Else2 : Type 0
+Else2 = lts.Else2 tie.the-claims reads.Pre reads.Post
 
 abbrev After-class_of : Type 0
 After-class_of = lts.After-class_of tie.the-claims reads.Pre reads.Post
 
+abbrev Else3 : Type 0
+Else3 = lts.Else3 tie.the-claims reads.Pre reads.Post
+
 abbrev After-is_outgoing : Type 0
 After-is_outgoing = lts.After-is_outgoing tie.the-claims reads.Pre reads.Post
+
+abbrev Else4 : Type 0
+Else4 = lts.Else4 tie.the-claims reads.Pre reads.Post
 
 abbrev After-wrong_case : Type 0
 After-wrong_case = lts.After-wrong_case tie.the-claims reads.Pre reads.Post
 
+abbrev Else5 : Type 0
+Else5 = lts.Else5 tie.the-claims reads.Pre reads.Post
+
 abbrev After-parameters_fit : Type 0
 After-parameters_fit = lts.After-parameters_fit tie.the-claims reads.Pre reads.Post
+
+abbrev Else6 : Type 0
+Else6 = lts.Else6 tie.the-claims reads.Pre reads.Post
 
 abbrev After-wrong_domain : Type 0
 After-wrong_domain = lts.After-wrong_domain tie.the-claims reads.Pre reads.Post
@@ -47,29 +65,21 @@ Known s = Formal s.args.c s.args.lc s.args.domain
 abbrev Past : Start → ℕ → Type 0
 Past s n = Left (Known s) formal_checks (drop n formal_checks)
 
--- the form
-abbrev from_form : goal.Else-not-c → Start
-from_form c = c.before.before
-
 form : (s : Start) → Finds (Known s) BrokenForm (not s.args.c.whole)
 form s = finds_form _ _ _ s.requires
 
-past_form : (c : goal.Else-not-c) → Past (from_form c) 1
+past_form : (c : Else1) → Past c.before.before 1
 unfolding formal_checks
-past_form c = passes (all_left (Known (from_form c)) formal_checks) (form (from_form c)) (not_from_true _ c.if-not-c.false)
+past_form c = passes (all_left (Known c.before.before) formal_checks) (form c.before.before) (not_from_true _ c.if-not-c.false)
 
 pub returns-then-not-c : goal.returns-then-not-c
 unfolding formal_checks
 returns-then-not-c c = is-first (all_left (Known c.before.before) formal_checks) (form c.before.before) (not_from_false _ c.if-not-c.true)
 
--- the instruction
-abbrev from-instruction : goal.Else-not-is_known → Start
-from-instruction c = from_form c.before.before
-
-instruction : (c : After-is_known) → Finds (Known (from_form c.before)) UnknownInstruction (not c.is_known.result)
+instruction : (c : After-is_known) → Finds (Known c.before.before.before) UnknownInstruction (not c.is_known.result)
 instruction c = finds_instruction _ _ _ (from_form c.before).requires c.is_known.ensures
 
-past-instruction : (c : goal.Else-not-is_known) → Past (from-instruction c) 2
+past-instruction : (c : Else2) → Past c.before.before.before.before 2
 unfolding formal_checks
 past-instruction c = passes (past_form c.before.before) (instruction c.before) (not_from_true _ c.if-not-is_known.false)
 
@@ -77,14 +87,10 @@ pub returns-then-not-is_known : goal.returns-then-not-is_known
 unfolding formal_checks
 returns-then-not-is_known c = is-first (past_form c.before.before) (instruction c.before) (not_from_false _ c.if-not-is_known.true)
 
--- the class
-abbrev from-class : goal.Else-c-class_of → Start
-from-class c = from-instruction c.before.before.before
-
-class : (c : After-class_of) → Finds (Known (from-instruction c.before)) WrongClass (not (eqb (from-instruction c.before).args.c.class c.class_of.result))
+class : (c : After-class_of) → Finds (Known c.before.before.before.before.before) WrongClass (not (eqb (from-instruction c.before).args.c.class c.class_of.result))
 class c = finds_class _ _ _ (from-instruction c.before).requires c.class_of.ensures
 
-past-class : (c : goal.Else-c-class_of) → Past (from-class c) 3
+past-class : (c : Else3) → Past c.before.before.before.before.before.before.before 3
 unfolding formal_checks
 past-class c = passes (past-instruction c.before.before.before) (class c.before.before) (ap not (eq-eqb _ _ c.if-c-class_of.false))
 
@@ -92,14 +98,10 @@ pub returns-then-c-class_of : goal.returns-then-c-class_of
 unfolding formal_checks
 returns-then-c-class_of c = is-first (past-instruction c.before.before.before) (class c.before.before) (ap not (ne_eqb _ _ c.if-c-class_of.true))
 
--- bytes after it
-abbrev from-after : goal.Else-is_outgoing-c → Start
-from-after c = from-class c.before.before.before
-
-after : (c : After-is_outgoing) → Finds (Known (from-class c.before)) BytesAfter (c.is_outgoing.result && (from-class c.before).args.c.after)
+after : (c : After-is_outgoing) → Finds (Known c.before.before.before.before.before.before.before.before) BytesAfter (c.is_outgoing.result && (from-class c.before).args.c.after)
 after c = finds_after _ _ _ (from-class c.before).requires c.is_outgoing.ensures
 
-past_after : (c : goal.Else-is_outgoing-c) → Past (from-after c) 4
+past_after : (c : Else4) → Past c.before.before.before.before.before.before.before.before.before.before 4
 unfolding formal_checks
 past_after c = passes (past-class c.before.before.before) (after c.before.before) c.if-is_outgoing-c.false
 
@@ -107,14 +109,10 @@ pub returns-then-is_outgoing-c : goal.returns-then-is_outgoing-c
 unfolding formal_checks
 returns-then-is_outgoing-c c = is-first (past-class c.before.before.before) (after c.before.before) c.if-is_outgoing-c.true
 
--- the case
-abbrev from-case : goal.Else-wrong_case → Start
-from-case c = from-after c.before.before
-
-case : (c : After-wrong_case) → Finds (Known (from-after c.before)) WrongCase c.wrong_case.result
+case : (c : After-wrong_case) → Finds (Known c.before.before.before.before.before.before.before.before.before.before.before) WrongCase c.wrong_case.result
 case c = finds_case _ _ _ (from-after c.before).requires c.wrong_case.ensures
 
-past-case : (c : goal.Else-wrong_case) → Past (from-case c) 5
+past-case : (c : Else5) → Past c.before.before.before.before.before.before.before.before.before.before.before.before 5
 unfolding formal_checks
 past-case c = passes (past_after c.before.before) (case c.before) c.if-wrong_case.false
 
@@ -122,14 +120,10 @@ pub returns-then-wrong_case : goal.returns-then-wrong_case
 unfolding formal_checks
 returns-then-wrong_case c = is-first (past_after c.before.before) (case c.before) c.if-wrong_case.true
 
--- P1 and P2
-abbrev from_parameters : goal.Else-not-parameters_fit → Start
-from_parameters c = from-case c.before.before
-
-parameters : (c : After-parameters_fit) → Finds (Known (from-case c.before)) WrongParameters (not c.parameters_fit.result)
+parameters : (c : After-parameters_fit) → Finds (Known c.before.before.before.before.before.before.before.before.before.before.before.before.before) WrongParameters (not c.parameters_fit.result)
 parameters c = finds_parameters _ _ _ (from-case c.before).requires c.parameters_fit.ensures
 
-past_parameters : (c : goal.Else-not-parameters_fit) → Past (from_parameters c) 6
+past_parameters : (c : Else6) → Past c.before.before.before.before.before.before.before.before.before.before.before.before.before.before 6
 unfolding formal_checks
 past_parameters c = passes (past-case c.before.before) (parameters c.before) (not_from_true _ c.if-not-parameters_fit.false)
 
@@ -137,7 +131,7 @@ pub returns-then-not-parameters_fit : goal.returns-then-not-parameters_fit
 unfolding formal_checks
 returns-then-not-parameters_fit c = is-first (past-case c.before.before) (parameters c.before) (not_from_false _ c.if-not-parameters_fit.true)
 
-domain : (c : After-wrong_domain) → Finds (Known (from_parameters c.before)) WrongDomain c.wrong_domain.result
+domain : (c : After-wrong_domain) → Finds (Known c.before.before.before.before.before.before.before.before.before.before.before.before.before.before.before) WrongDomain c.wrong_domain.result
 domain c = finds_domain _ _ _ (from_parameters c.before).requires c.wrong_domain.ensures
 
 pub returns-then-wrong_domain : goal.returns-then-wrong_domain

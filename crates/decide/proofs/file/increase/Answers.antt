@@ -11,18 +11,11 @@ use Rattle.decide.proofs.file.increase.Lts as lts
 use Rattle.decide.proofs.file.increase.Reads as reads
 use Rattle.decide.proofs.file.increase.Tie as tie
 
+abbrev Past-After-enum_told : Type 0
+Past-After-enum_told = lts.Past-After-enum_told tie.the-claims reads.Pre reads.Post
+
 abbrev Start : Type 0
 Start = lts.Start tie.the-claims reads.Pre reads.Post
-
-abbrev After-enum_told : Type 0
-After-enum_told = lts.After-enum_told tie.the-claims reads.Pre reads.Post
-
--- where the file's row was read from, and where all checks are passed
-abbrev start : goal.After-target_row-r → Start
-start c = c.before.before.before.before.before
-
-abbrev row_at : After-enum_told → goal.After-target_row-r
-row_at c = c.before.before.before
 
 pub target_row-r-requires : goal.target_row-r-requires
 target_row-r-requires c = entry-inside c.requires.0
@@ -35,27 +28,24 @@ returns-in-Failed c =
     check_failed c.target_row-r.ensures c.checked.ensures c.in-Failed.is c.failed.ensures _ _
 
 -- what is known where all checks are passed
-module _ (c : After-enum_told) where
+module _ (c : Past-After-enum_told) where
   abbrev s : Start
   s = start (row_at c)
 
   known : Known (length s.args.files.now) s.args.c (length s.args.«data».now) s.args.s c.target_row-r.result
-  known = check_passed s.args.«data».now c.target_row-r.ensures c.checked.ensures c.in_default.is s.pre.0
+  known = check_passed s.args.«data».now c.target_row-r.ensures c.checked.ensures c.in_default.is s.requires.0
 
 pub increase-requires : goal.increase-requires
 increase-requires c =
-    let k = c.before in
-    let p = (start (row_at k)).requires in
-    let n = to_sum (known k) p.1 in
+    let p = c.requires in
+    let n = to_sum (known c.before.before) p.1 in
     record { file = n.0; short = n.1; fits = n.2; made = p.2 }
 
 pub returns : goal.returns
 unfolding situation file_at done_by pick
 returns c =
-    let at-increase = c.before.before in
-    let k = at-increase.before.before in
-    let p = (start (row_at k)).requires in
-    let row = sym k.target_row-r.ensures.0 in
-    check_done k.target_row-r.ensures k.checked.ensures k.in_default.is p.1
-    (λ journal. at-increase.increase.ensures.0 _ row refl (rw row))
-    (at-increase.increase.ensures.1 _ (newest-inside p.0))
+    let p = c.requires in
+    let row = sym c.target_row-r.ensures.0 in
+    check_done c.target_row-r.ensures c.checked.ensures c.in_default.is p.1
+    (λ journal. c.increase.ensures.0 _ row refl (rw row))
+    (c.increase.ensures.1 _ (newest-inside p.0))

@@ -12,15 +12,11 @@ use Rattle.decide.proofs.file.read_binary.Lts as lts
 use Rattle.decide.proofs.file.read_binary.Reads as reads
 use Rattle.decide.proofs.file.read_binary.Tie as tie
 
+abbrev Past-After-enum_told : Type 0
+Past-After-enum_told = lts.Past-After-enum_told tie.the-claims reads.Pre reads.Post
+
 abbrev Start : Type 0
 Start = lts.Start tie.the-claims reads.Pre reads.Post
-
--- where the file's row was read from, and where all checks are passed
-abbrev start : goal.After-target_row-r → Start
-start c = c.before.before.before.before
-
-abbrev row_at : goal.In_default → goal.After-target_row-r
-row_at c = c.before.before.before
 
 pub target_row-r-requires : goal.target_row-r-requires
 target_row-r-requires c = entry-inside c.requires.0
@@ -33,24 +29,24 @@ returns-in-Failed c =
     check_failed c.target_row-r.ensures c.checked.ensures c.in-Failed.is c.failed.ensures _
 
 -- what is known where all checks are passed
-module _ (c : goal.In_default) where
+module _ (c : Past-After-enum_told) where
   abbrev s : Start
   s = start (row_at c)
 
   known : Known (length s.args.files.now) s.args.c (length s.args.«data».now) s.args.s c.target_row-r.result
-  known = check_passed s.args.«data».now c.target_row-r.ensures c.checked.ensures c.in_default.is s.pre.0
+  known = check_passed s.args.«data».now c.target_row-r.ensures c.checked.ensures c.in_default.is s.requires.0
 
 pub read_binary-requires : goal.read_binary-requires
 read_binary-requires c =
-    let p = (start (row_at c)).requires in
+    let p = c.requires in
     let b = p.0.bytes in
-    record { row = c.target_row-r.ensures.1; p1 = b.p1; p2 = b.p2; inside = to_read (known c) p.1 }
+    record { row = c.target_row-r.ensures.1; p1 = b.p1; p2 = b.p2; inside = to_read (known c.before) p.1 }
 
 pub returns : goal.returns
 unfolding situation file_at done_by pick
 returns c = λ bytes.
     let k = c.before in
     let s = start (row_at k) in
-    check_plainly k.target_row-r.ensures k.checked.ensures k.in_default.is s.pre.1 refl
+    check_plainly k.target_row-r.ensures k.checked.ensures k.in_default.is s.requires.1 refl
     (λ journal. c.read_binary.ensures.0 s.args.«data».now bytes _ (sym k.target_row-r.ensures.0))
     (none-fits _ _ _ c.read_binary.ensures.1)

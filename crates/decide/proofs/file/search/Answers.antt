@@ -12,18 +12,11 @@ use Rattle.decide.proofs.file.search.Lts as lts
 use Rattle.decide.proofs.file.search.Reads as reads
 use Rattle.decide.proofs.file.search.Tie as tie
 
+abbrev Past-After-enum_told : Type 0
+Past-After-enum_told = lts.Past-After-enum_told tie.the-claims reads.Pre reads.Post
+
 abbrev Start : Type 0
 Start = lts.Start tie.the-claims reads.Pre reads.Post
-
-abbrev After-enum_told : Type 0
-After-enum_told = lts.After-enum_told tie.the-claims reads.Pre reads.Post
-
--- where the file's row was read from, and where all checks are passed
-abbrev start : goal.After-target_row-r → Start
-start c = c.before.before.before.before.before
-
-abbrev row_at : After-enum_told → goal.After-target_row-r
-row_at c = c.before.before.before
 
 pub target_row-r-requires : goal.target_row-r-requires
 target_row-r-requires c = entry-inside c.requires.0
@@ -36,26 +29,23 @@ returns-in-Failed c =
     check_failed c.target_row-r.ensures c.checked.ensures c.in-Failed.is c.failed.ensures _ _
 
 -- what is known where all checks are passed
-module _ (c : After-enum_told) where
+module _ (c : Past-After-enum_told) where
   abbrev s : Start
   s = start (row_at c)
 
   known : Known (length s.args.files.now) s.args.c (length s.args.«data».now) s.args.s c.target_row-r.result
-  known = check_passed s.args.«data».now c.target_row-r.ensures c.checked.ensures c.in_default.is s.pre.0
+  known = check_passed s.args.«data».now c.target_row-r.ensures c.checked.ensures c.in_default.is s.requires.0
 
 pub search_records-requires : goal.search_records-requires
 search_records-requires c =
-    let k = c.before in
-    let p = (start (row_at k)).requires in
-    let n = has_named (known k) (rw p.1) (rw p.1) in
-    (p.1, record { file = of_records (known k) (rw p.1); first = n.first; last = n.last; made = p.2 })
+    let p = c.requires in
+    let n = has_named (known c.before.before) (rw p.1) (rw p.1) in
+    (p.1, record { file = of_records (known c.before.before) (rw p.1); first = n.first; last = n.last; made = p.2 })
 
 pub returns : goal.returns
 unfolding situation file_at done_by pick
 returns c =
-    let at-search = c.before.before in
-    let k = at-search.before.before in
-    let row = sym k.target_row-r.ensures.0 in
-    check_plainly k.target_row-r.ensures k.checked.ensures k.in_default.is (start (row_at k)).requires.1 refl
-    (λ journal. at-search.search_records.ensures.0 _ row (rw row))
-    (none-fits _ _ _ at-search.search_records.ensures.1)
+    let row = sym c.target_row-r.ensures.0 in
+    check_plainly c.target_row-r.ensures c.checked.ensures c.in_default.is c.requires.1 refl
+    (λ journal. c.search_records.ensures.0 _ row (rw row))
+    (none-fits _ _ _ c.search_records.ensures.1)
