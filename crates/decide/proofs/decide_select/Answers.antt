@@ -31,8 +31,8 @@ Else1 = lts.Else1 tie.the-claims reads.Pre reads.Post
 abbrev Start : Type 0
 Start = lts.Start tie.the-claims reads.Pre reads.Post
 
-abbrev Past-After-e : Type 0
-Past-After-e = lts.Past-After-e tie.the-claims reads.Pre reads.Post
+abbrev Past-After-known_told : Type 0
+Past-After-known_told = lts.Past-After-known_told tie.the-claims reads.Pre reads.Post
 
 pub returns-then-not-path_length_fits : goal.returns-then-not-path_length_fits
 returns-then-not-path_length_fits c = (
@@ -67,7 +67,7 @@ returns-in_default c = (
 )
 
 -- an entry is found
-module _ (c : Past-After-e) where
+module _ (c : Past-After-known_told) where
   abbrev found : ℕ
   found = c.in-At.e
 
@@ -79,14 +79,12 @@ module _ (c : Past-After-e) where
 
 pub row_at-requires : goal.row_at-requires
 row_at-requires c =
-    let k = c.before in
-    omega (arith, ((origin k).requires.found (found k) (there k)).inside)
+    omega (arith, ((origin c.before).requires.found (found c.before) (there c.before)).inside)
 
 pub select_entry-requires : goal.select_entry-requires
 select_entry-requires c =
-    let k = c.before.before.before in
-    let p = (origin k).requires in
-    let h = p.found (found k) (there k) in
+    let p = (origin c.before.before.before).requires in
+    let h = p.found (found c.before.before.before) (there c.before.before.before) in
     record {
       fcp = rw c.row_at.ensures.0 h.fcp;
       row = c.row_at.ensures.1;
@@ -97,12 +95,11 @@ select_entry-requires c =
 pub returns : goal.returns
 unfolding row_found
 returns c =
-    let n = c.before.before.before.before.before.before in
-    let z = origin n in
-    let e = found n in (
+    let z = origin c.before.before.before.before.before.before in
+    let e = found c.before.before.before.before.before.before in (
       λ w so.
           c.select_entry.ensures.0 z.args.«data».now
-          ∙ (λ i. select_entry (sym so.same_format i) (sym so.session i) (sym so.command i).p2 e ((c.row_at.ensures.0 ∙ sym (ap (row_found z.args.table.now) (there n)) ∙ sym so.row) i))
-          ∙ select-found w (fitting_so c.before.before.before.before.before.before.before.before.before.before w so.command so.same_data) e (so.found ∙ there n) (ap (λ (q : Command). q.instruction) so.command ∙ z.requires.instruction),
+          ∙ (λ i. select_entry (sym so.same_format i) (sym so.session i) (sym so.command i).p2 e ((c.row_at.ensures.0 ∙ sym (ap (row_found z.args.table.now) (there c.before.before.before.before.before.before)) ∙ sym so.row) i))
+          ∙ select-found w (fitting_so c.before.before.before.before.before.before.before.before.before.before w so.command so.same_data) e (so.found ∙ there c.before.before.before.before.before.before) (ap (λ (q : Command). q.instruction) so.command ∙ z.requires.instruction),
       c.select_entry.ensures.1,
     )

@@ -57,7 +57,7 @@ returns-then-n-eq0 c =
 
 pub produced-requires : goal.produced-requires
 produced-requires c =
-    let l : length (found c.before.before.before.before.before.before.before) ≤ length (start c.before.before.before.before.before.before.before).args.made.now = write-short _ _ (sym (ap length c.search-n.ensures.0) ∙ c.search-n.auto.1.1.1.1.1.0) in
+    let l : length (found c.before.before.before.before.before.before.before) ≤ length (start c.before.before.before.before.before.before.before).args.made.now = write-short _ _ (sym (ap length c.search-n.ensures.0) ∙ c.search-n.auto.out) in
     (omega (arith, c.search-n.ensures.1, (start c.before.before.before.before.before.before.before).requires.1.made), omega arith)
 
 pub returns : goal.returns
