@@ -7,7 +7,6 @@ use Rattle.answers.specs.declared.turns.Turn.{Turn}
 use Rattle.answers.specs.declared.Answered.{Answered}
 use Rattle.answers.specs.declared.Answered.TheVariants.{Read}
 use Rattle.answers.specs.Answers.{answered_by, results_read}
-use Rattle.std.proofs.lemmas.Bool.{not_from_true, not_from_false}
 use Rattle.answers.proofs.results_read.Goals as goal
 
 -- a good answer by its count
@@ -16,16 +15,16 @@ read first t count = Read (record { count = count; first = first; end = t.at })
 
 pub returns-then-not-t : goal.returns-then-not-t
 unfolding results_read answered_by
-returns-then-not-t c = rw (← c.turns_from-t.ensures) (no _ _ (not-true _ (not_from_false _ c.if-not-t.true)) refl)
+returns-then-not-t c = rw (← c.turns_from-t.ensures) (no _ _ (not-true _ c.if-not-t.true) refl)
 
 pub returns-then-definite : goal.returns-then-definite
 unfolding results_read answered_by
 returns-then-definite c =
     rw (← c.turns_from-t.ensures)
-    (yes _ _ (not-false _ (not_from_true _ c.if-not-t.false)) (ap (read c.args.first c.turns_from-t.result) (yes _ _ c.if-definite.true refl)))
+    (yes _ _ (not-false _ c.if-not-t.false) (ap (read c.args.first c.turns_from-t.result) (yes _ _ c.if-definite.true refl)))
 
 pub returns : goal.returns
 unfolding results_read answered_by
 returns c =
     rw (← c.turns_from-t.ensures)
-    (yes _ _ (not-false _ (not_from_true _ c.if-not-t.false)) (ap (read c.args.first c.turns_from-t.result) (no _ _ c.if-definite.false refl)))
+    (yes _ _ (not-false _ c.if-not-t.false) (ap (read c.args.first c.turns_from-t.result) (no _ _ c.if-definite.false refl)))

@@ -41,6 +41,9 @@ use Rattle.decide.proofs.decide.Tie as tie
 abbrev Start : Type 0
 Start = lts.Start tie.the-claims reads.Pre reads.Post
 
+abbrev After-slice_known : Type 0
+After-slice_known = lts.After-slice_known tie.the-claims reads.Pre reads.Post
+
 abbrev After-room_of : Type 0
 After-room_of = lts.After-room_of tie.the-claims reads.Pre reads.Post
 
@@ -50,6 +53,13 @@ card_of s = lent s.args.table.now s.args.files.now s.args.journal.now
 
 abbrev whole : Start → Situation
 whole s = situation s.args.format s.args.domain s.args.c s.args.«data».now s.args.s (card_of s)
+
+-- the points of the walk, each from the one before: all memories are known, the journal is read, an instruction is not the one asked for
+abbrev start : After-slice_known → Start
+start c = c.before.before.before.before.before
+
+abbrev known : After-room_of → After-slice_known
+known c = c.before.before.before.before
 
 -- what writes nothing is decided
 nothing : (s : Start) {bytes : List ℕ} {d : Decision} → plan_of d s.args.«data».now bytes ≡ planned (whole s) → d.change ≡ Nothing → Decided (card_of s) s.args.«data».now bytes (planned (whole s)) d
@@ -78,7 +88,7 @@ decide_select-requires c =
     let sound = (able c.requires.0).table in
     let g = c.requires.0.good in
     record {
-      instruction = c.if-i-eq-SELECT.taken;
+      instruction = c.if-i-eq-SELECT.true;
       stands = record { root_inside = g.root_inside; directory_inside = g.directory.inside; parents_inside = parents_inside_lem t files sound };
       found = λ e h.
           let b = find-belongs t files sound c.args.s g c.args.c.p1 c.args.«data».now e h in
@@ -92,7 +102,7 @@ unfolding situation
 returns-then-i-eq-SELECT c =
     nothing c.before.before.before.before.before.before.before.before.before.before.before.before.before
     (c.decide_select.ensures.0 (whole c.before.before.before.before.before.before.before.before.before.before.before.before.before) (record { same_format = refl; command = refl; same_data = refl; session = refl; found = refl; row = refl })
-    ∙ behind-select (whole c.before.before.before.before.before.before.before.before.before.before.before.before.before) c.if-i-eq-SELECT.taken
+    ∙ behind-select (whole c.before.before.before.before.before.before.before.before.before.before.before.before.before) c.if-i-eq-SELECT.true
     ∙ form_passed c.before.before.before.before.before.before.before.before.before.before.before.before.before c.formal_check.ensures c.in_default.is)
     c.decide_select.ensures.1
 
@@ -111,14 +121,14 @@ returns-then-i-eq-GET_RESPONSE c =
 
 -- the journal is read: what `with_room` asks, and what comes of it
 pub head_of-used-requires : goal.head_of-used-requires
-head_of-used-requires c = let h = (journal_parts (start c.before.before).requires.0).size in omega arith
+head_of-used-requires c = let h = (journal_parts c.requires.0).size in omega arith
 
 pub room_of-room-requires : goal.room_of-room-requires
-room_of-room-requires c = let h = (journal_parts (start c.before.before.before).requires.0).size in omega arith
+room_of-room-requires c = let h = (journal_parts c.requires.0).size in omega arith
 
 module _ (c : After-room_of) where
   abbrev origin : Start
-  origin = start (known c)
+  origin = start c.before.before.before.before
 
   roomy : (change : Change) → Fits (length origin.args.table.now) (length origin.args.files.now) (length origin.args.«data».now) change → WithRoomAsks change (length origin.args.«data».now) c.head_of-used.result.used c.room_of-room.result
   roomy change h =
@@ -190,7 +200,7 @@ with_room-requires-then-i-eq-SEARCH c =
 
 pub returns-then-i-eq-SEARCH : goal.returns-then-i-eq-SEARCH
 returns-then-i-eq-SEARCH c =
-    roomed_so c.before.before.before.before.before.before.before.before.before.before.before (same-length-2 c ∙ (origin c.before.before.before.before.before.before.before.before.before.before.before).requires.1) c.search-d.ensures c.with_room-then-i-eq-SEARCH.ensures
+    roomed_so c.before.before.before.before.before.before.before.before.before.before.before (c.search-d.auto.made ∙ (origin c.before.before.before.before.before.before.before.before.before.before.before).requires.1) c.search-d.ensures c.with_room-then-i-eq-SEARCH.ensures
 
 -- INCREASE
 pub increase-d-requires : goal.increase-d-requires
@@ -204,7 +214,7 @@ with_room-requires-then-i-eq-INCREASE c =
 
 pub returns-then-i-eq-INCREASE : goal.returns-then-i-eq-INCREASE
 returns-then-i-eq-INCREASE c =
-    roomed_so c.before.before.before.before.before.before.before.before.before.before.before.before (same-length-3 c ∙ (origin c.before.before.before.before.before.before.before.before.before.before.before.before).requires.1) c.increase-d.ensures c.with_room-then-i-eq-INCREASE.ensures
+    roomed_so c.before.before.before.before.before.before.before.before.before.before.before.before (c.increase-d.auto.made ∙ (origin c.before.before.before.before.before.before.before.before.before.before.before.before).requires.1) c.increase-d.ensures c.with_room-then-i-eq-INCREASE.ensures
 
 -- DEACTIVATE
 pub deactivate-d-requires : goal.deactivate-d-requires

@@ -43,10 +43,9 @@ decide-d-requires c =
 
 pub limited-requires : goal.limited-requires
 limited-requires c =
-    let at-decide = c.before.before in
-    let s = start at-decide in
-    let d = at-decide.decide-d in
-    (s.pre.0.kept, decided-few s.args.format s.args.domain s.args.c s.args.«data».now s.args.s (card_of s) s.pre.0.ready _ d.result d.ensures)
+    let s = start c.before.before.before in
+    let d = c.decide-d in
+    (s.requires.0.kept, decided-few s.args.format s.args.domain s.args.c s.args.«data».now s.args.s (card_of s) s.requires.0.ready _ d.result d.ensures)
 
 -- where the command was decided, from where it was held to the 1,000 bytes
 abbrev decided : After-limited → After-decide
@@ -55,26 +54,22 @@ decided c = c.before.before.before
 pub carry_out-requires : goal.carry_out-requires
 unfolding plan_of
 carry_out-requires c =
-    let at-limited = c.before.before.before.before.before in
-    let s = start (decided at-limited) in
-    let d = at-limited.limited.ensures _ _ _ _ at-limited.decide-d.ensures in
-    let whole : length s.args.journal.now ≡ journal_length = (card_parts (card_of s) s.pre.0.ready.sound).size in (
+    let s = start c.before.before.before.before.before.before.before.before in
+    let d = c.limited.ensures _ _ _ _ c.decide-d.ensures in
+    let whole : length s.args.journal.now ≡ journal_length = (card_parts (card_of s) s.requires.0.ready.sound).size in (
       record {
         fits = d.fits;
         made = search rules;
         short = omega arith;
         left = subst (λ (p : Plan). HasRoom s.args.journal.now (cost p.writes)) (sym d.same) d.journal;
       },
-      s.pre.1,
-      s.pre.2,
+      s.requires.1,
+      s.requires.2,
     )
 
 pub returns : goal.returns
 returns c =
-    let at_table = c.before.before.before.before.before in
-    let at-carry-out = at_table.before.before.before in
-    let at-limited = at-carry-out.before.before.before.before.before.before in
-    let s = start (decided at-limited) in
-    let d = at-limited.limited.ensures _ _ _ _ at-limited.decide-d.ensures in
-    let done = at-carry-out.carry_out.ensures in
+    let s = start c.before.before.before.before.before.before.before.before.before.before.before.before.before.before.before.before.before in
+    let d = c.limited.ensures _ _ _ _ c.decide-d.ensures in
+    let done = c.carry_out.ensures in
     (done.0 ∙ ap (λ (p : Plan). carried_out p s.args.waiting.now (card_of s)) d.same, done.1)

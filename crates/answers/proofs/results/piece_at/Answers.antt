@@ -23,12 +23,12 @@ After-shared_slice_known = lts.After-shared_slice_known tie.the-claims reads.Pre
 
 -- what is promised of what stands at the place
 told : (k : After-shared_slice_known) {p : Piece}
-    → (let a = k.before.args in
+    → (let a = k.args in
     p ≡ piece_at a.answer.now a.definite a.end a.at
     → (p ≡ piece_at a.answer.now a.definite a.end a.at) × PieceFits (length a.answer.now) a.at p)
 told k =
-    let a = k.before.args in
-    piece_told_lem a.answer.now (λ i. (k.shared-slice-known.given i).fits) a.at a.definite a.end k.before.requires
+    let a = k.args in
+    piece_told_lem a.answer.now (λ i. (k.shared_slice_known-1.given i).fits) a.at a.definite a.end k.requires
 
 -- a length that is none ends both kinds of value
 no_value : (answer : List ℕ) (tag place : ℕ) → Bad place ≡ value_of answer tag (sized.Bad place)
@@ -38,8 +38,7 @@ no_value answer tag place = on_pick (λ (p : Piece). Bad place ≡ p) (eqb tag 0
 pub returns-then-definite-end : goal.returns-then-definite-end
 unfolding piece_at
 returns-then-definite-end c =
-    let at_wide = c.before in
-    told at_wide.before.before (rw (← at_wide.wide-tag.ensures.0) (yes _ _ c.if-definite-end.true refl))
+    told c.before.before.before.before (rw (← c.wide-tag.ensures.0) (yes _ _ c.if-definite-end.true refl))
 
 pub value_of-requires : goal.value_of-requires
 unfolding SizedFits
@@ -50,22 +49,14 @@ value_of-requires c =
 pub returns-in-Size : goal.returns-in-Size
 unfolding piece_at
 returns-in-Size c =
-    let at-found = c.before.before in
-    let at-sized = at-found.before.before in
-    let at-else = at-sized.before in
-    let at_wide = at-else.before in
-    told at_wide.before.before
-    (rw (← at_wide.wide-tag.ensures.0)
-    (no _ _ at-else.if-definite-end.false
-    (c.value_of.ensures ∙ ap (value_of _ _) (sym at-found.in-Size.is ∙ at-sized.sized_at-sized.ensures.0))))
+    told c.before.before.before.before.before.before.before
+    (rw (← c.wide-tag.ensures.0)
+    (no _ _ c.if-definite-end.false
+    (c.value_of.ensures ∙ ap (value_of _ _) (sym c.in-Size.is ∙ c.sized_at-sized.ensures.0))))
 
 pub returns-in-Bad : goal.returns-in-Bad
 unfolding piece_at
 returns-in-Bad c =
-    let at-stop = c.before in
-    let at-sized = at-stop.before.before in
-    let at-else = at-sized.before in
-    let at_wide = at-else.before in
-    told at_wide.before.before
-    (rw (← at_wide.wide-tag.ensures.0)
-    (no _ _ at-else.if-definite-end.false (no_value _ _ _ ∙ ap (value_of _ _) (sym at-stop.in-Bad.is ∙ at-sized.sized_at-sized.ensures.0))))
+    told c.before.before.before.before.before.before
+    (rw (← c.wide-tag.ensures.0)
+    (no _ _ c.if-definite-end.false (no_value _ _ _ ∙ ap (value_of _ _) (sym c.in-Bad.is ∙ c.sized_at-sized.ensures.0))))

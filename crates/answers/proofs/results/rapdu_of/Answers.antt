@@ -16,12 +16,11 @@ After-word_at = lts.After-word_at tie.the-claims reads.Pre reads.Post
 
 -- the word behind the data
 read : (k : After-word_at)
-    → (let a = k.before.before.before.before.args in
-    k.word_at.result ≡ word_at (words_behind (a.n - 2)) a.answer.now (a.from + (a.n - 2)))
+    → (let a = k.args in
+    k.word_at-worded.result ≡ word_at (words_behind (a.n - 2)) a.answer.now (a.from + (a.n - 2)))
 read k =
-    let at_words = k.before in
-    let a = at_words.before.before.before.args in
-    k.word_at.ensures ∙ ap (λ (w : Words). word_at w a.answer.now (a.from + (a.n - 2))) at_words.words_behind.ensures
+    let a = k.args in
+    k.word_at-worded.ensures ∙ ap (λ (w : Words). word_at w a.answer.now (a.from + (a.n - 2))) k.words_behind.ensures
 
 pub returns-then-n-lt2 : goal.returns-then-n-lt2
 unfolding rapdu_of
@@ -30,11 +29,9 @@ returns-then-n-lt2 c = search picks
 pub returns-in-Word : goal.returns-in-Word
 unfolding rapdu_of rapdu_ends
 returns-in-Word c =
-    let at-word = c.before.before.before in
-    lt_no _ _ _ at-word.if-n-lt2.false (ap (rapdu_ends _ _) (sym c.in-Word.is ∙ read at-word))
+    lt_no _ _ _ c.if-n-lt2.false (ap (rapdu_ends _ _) (sym c.in-Word.is ∙ read c.before.before))
 
 pub returns-in-Bad : goal.returns-in-Bad
 unfolding rapdu_of rapdu_ends
 returns-in-Bad c =
-    let at-word = c.before.before.before in
-    lt_no _ _ _ at-word.if-n-lt2.false (ap (rapdu_ends _ _) (sym c.in-Bad.is ∙ read at-word))
+    lt_no _ _ _ c.if-n-lt2.false (ap (rapdu_ends _ _) (sym c.in-Bad.is ∙ read c.before.before))

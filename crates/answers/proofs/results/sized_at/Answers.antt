@@ -20,22 +20,19 @@ After-shared_slice_known = lts.After-shared_slice_known tie.the-claims reads.Pre
 
 -- what is promised of a length that is the one at the place
 told : (k : After-shared_slice_known) {r : Sized}
-    → (let a = k.before.args in
+    → (let a = k.args in
     r ≡ sized_at a.answer.now a.definite a.end a.at
     → (r ≡ sized_at a.answer.now a.definite a.end a.at) × SizedFits (length a.answer.now) a.at r)
 told k =
-    let a = k.before.args in
-    sized-told a.answer.now a.at k.before.requires (λ i. (k.shared-slice-known.given i).fits) a.definite a.end
+    let a = k.args in
+    sized-told a.answer.now a.at k.requires (λ i. (k.shared_slice_known-1.given i).fits) a.definite a.end
 
 pub returns-in_default : goal.returns-in_default
 unfolding sized_at sized_by code_of
 returns-in_default c =
-    let at_code = c.before in
-    let at-bad = at_code.before in
-    let at_length = at-bad.before.before in
-    let is-bad = at-bad.in_default.is in
-    told at_length.before
-    (rw (c.length_stop.ensures, at_code.code_of.ensures, sym at_length.length_at-l.ensures.0 ∙ is-bad, is-bad))
+    let is-bad = c.in_default.is in
+    told c.before.before.before.before.before
+    (rw (c.length_stop.ensures, c.code_of.ensures, sym c.length_at-l.ensures.0 ∙ is-bad, is-bad))
 
 pub overflow_add-from : goal.overflow_add-from
 unfolding LengthFits
@@ -46,10 +43,8 @@ overflow_add-from c =
 pub returns-then-definite-from : goal.returns-then-definite-from
 unfolding sized_at sized_by
 returns-then-definite-from c =
-    let at-found = c.before.before in
-    let at_length = at-found.before.before in
-    told at_length.before
-    (rw (sym at_length.length_at-l.ensures.0 ∙ at-found.in-Found.is) (yes _ _ c.if-definite-from.true refl))
+    told c.before.before.before.before
+    (rw (sym c.length_at-l.ensures.0 ∙ c.in-Found.is) (yes _ _ c.if-definite-from.true refl))
 
 pub overflow_sub-result : goal.overflow_sub-result
 unfolding LengthFits
@@ -60,7 +55,5 @@ overflow_sub-result c =
 pub returns : goal.returns
 unfolding sized_at sized_by
 returns c =
-    let at-found = c.before.before in
-    let at_length = at-found.before.before in
-    told at_length.before
-    (rw (sym at_length.length_at-l.ensures.0 ∙ at-found.in-Found.is) (no _ _ c.if-definite-from.false refl))
+    told c.before.before.before.before
+    (rw (sym c.length_at-l.ensures.0 ∙ c.in-Found.is) (no _ _ c.if-definite-from.false refl))

@@ -21,47 +21,42 @@ After-piece_at = lts.After-piece_at tie.the-claims reads.Pre reads.Post
 
 -- what is promised of the reading after the turn
 told : (k : After-shared_slice_known) {r : Turn}
-    → (let a = k.before.args in
+    → (let a = k.args in
     r ≡ turned a.answer.now a.definite a.end a.t
     → (r ≡ turned a.answer.now a.definite a.end a.t) × TurnedFits (length a.answer.now) a.t r)
 told k =
-    let a = k.before.args in
-    turned-told a.answer.now (λ i. (k.shared-slice-known.given i).fits) a.definite a.end a.t k.before.requires
+    let a = k.args in
+    turned-told a.answer.now (λ i. (k.shared_slice_known-1.given i).fits) a.definite a.end a.t k.requires
 
 -- a turn that comes of what stands there
 by_piece : (k : After-piece_at) {r : Turn} {p : Piece}
-    → (let a = k.before.before.before.before.before.before.before.before.args in
-    r ≡ turned_by a.definite a.t p → k.piece_at.result ≡ p
+    → (let a = k.args in
+    r ≡ turned_by a.definite a.t p → k.piece_at-piece.result ≡ p
     → (r ≡ turned a.answer.now a.definite a.end a.t) × TurnedFits (length a.answer.now) a.t r)
 unfolding turned
 by_piece k e known =
-    let at-else4 = k.before in
-    let at_else3 = at-else4.before.before in
-    let at_else2 = at_else3.before.before in
-    let at-else1 = at_else2.before in
-    told at-else1.before
-    (no _ _ at-else1.if1.false
-    (le_no _ _ _ at_else2.if2.false
-    (no _ _ at_else3.if3.false
-    (eq_no _ _ _ at-else4.if4.false (e ∙ ap (turned_by _ _) (sym known ∙ k.piece_at.ensures.0))))))
+    told k.before.before.before.before.before.before.before
+    (no _ _ k.if-definite-at.false
+    (le_no _ _ _ k.if-answer-at.false
+    (no _ _ k.if-definite-answer.false
+    (eq_no _ _ _ k.if-t-eq0.false (e ∙ ap (turned_by _ _) (sym known ∙ k.piece_at-piece.ensures.0))))))
 
 pub returns-then-definite-at : goal.returns-then-definite-at
 unfolding turned
-returns-then-definite-at c = told c.before.before (search choices)
+returns-then-definite-at c = told c.before.before.before (search choices)
 
 pub returns-then-answer-at : goal.returns-then-answer-at
 unfolding turned
-returns-then-answer-at c = told c.before.before.before (search choices)
+returns-then-answer-at c = told c.before.before.before.before (search choices)
 
 pub returns-then-definite-answer : goal.returns-then-definite-answer
 unfolding turned
-returns-then-definite-answer c = told c.before.before.before.before.before (search choices)
+returns-then-definite-answer c = told c.before.before.before.before.before.before (search choices)
 
 pub returns-then-t-eq0 : goal.returns-then-t-eq0
 unfolding turned
 returns-then-t-eq0 c =
-    let at_else3 = c.before.before.before in
-    told at_else3.before.before.before.before (search choices)
+    told c.before.before.before.before.before.before.before.before (search choices)
 
 pub overflow_add-from : goal.overflow_add-from
 unfolding PieceFits
@@ -84,19 +79,14 @@ overflow_add-place c =
 pub returns-in-Result : goal.returns-in-Result
 unfolding turned_by
 returns-in-Result c =
-    let at_left = c.before in
-    let at-found = at_left.before.before in
-    let at_piece = at-found.before.before in
-    by_piece at_piece (c.went_on.ensures ∙ ap (went_on _ _) at_left.left_behind.ensures) at-found.in-Result.is
+    by_piece c.before.before.before.before (c.went_on.ensures ∙ ap (went_on _ _) c.left_behind.ensures) c.in-Result.is
 
 pub returns-in-BadFormat : goal.returns-in-BadFormat
 unfolding turned_by
 returns-in-BadFormat c =
-    let at-found = c.before.before in
-    by_piece at-found.before.before c.went_on-in-BadFormat.ensures at-found.in-BadFormat.is
+    by_piece c.before.before.before c.went_on-in-BadFormat.ensures c.in-BadFormat.is
 
 pub returns-in-Bad : goal.returns-in-Bad
 unfolding turned_by
 returns-in-Bad c =
-    let at-found = c.before.before in
-    by_piece at-found.before.before c.stopped-in-Bad.ensures at-found.in-Bad.is
+    by_piece c.before.before.before c.stopped-in-Bad.ensures c.in-Bad.is

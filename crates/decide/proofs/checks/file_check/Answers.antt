@@ -6,7 +6,7 @@ use Prim.Native.Nat.{ℕ}
 use native.Mathlib.Omega.{arith}
 use lib.Dec.{eqb}
 use lib.ListN.{drop}
-use borrow.Author.Tests.{eq-eqb, ne_eqb, not-false}
+use borrow.Author.Tests.{eq-eqb, ne_eqb}
 use Rattle.octets.proofs.Picks.{told}
 use Rattle.decide.proofs.Finds.{Finds, finds_file, finds_kind, finds_mode, finds_shut, finds_never, finds_offset, finds_record, finds_length}
 use Rattle.decide.proofs.Order.{Left, all_left, passes, is-first, none_left}
@@ -93,7 +93,7 @@ unfolding bound_checks
 returns-then-target-eq0 c = is-first (all_left (Known c.before.before.before.before) bound_checks) (file c.before) (eq-eqb _ _ c.if-target-eq0.true)
 
 kind : (c : After-kind_fits) → Finds (Known c.before.before.before.before.before) WrongKind (not c.kind_fits.result)
-kind c = finds_kind _ _ _ _ (from-file c.before).requires.0 c.kind_fits.ensures
+kind c = finds_kind _ _ _ _ c.requires.0 c.kind_fits.ensures
 
 past-kind : (c : Else2) → Past c.before.before.before.before.before.before 2
 unfolding bound_checks
@@ -104,7 +104,7 @@ unfolding bound_checks
 returns-then-not-kind_fits c = is-first (past-file c.before.before) (kind c.before) (not_from_false _ c.if-not-kind_fits.true)
 
 mode : (c : After-wrong_mode) → Finds (Known c.before.before.before.before.before.before.before) WrongMode c.wrong_mode.result
-mode c = finds_mode _ _ _ _ (from-kind c.before).requires.0 c.wrong_mode.ensures
+mode c = finds_mode _ _ _ _ c.requires.0 c.wrong_mode.ensures
 
 past-mode : (c : Else3) → Past c.before.before.before.before.before.before.before.before 3
 unfolding bound_checks
@@ -115,7 +115,7 @@ unfolding bound_checks
 returns-then-wrong_mode c = is-first (past-kind c.before.before) (mode c.before) c.if-wrong_mode.true
 
 shut : (c : After-is_shut) → Finds (Known c.before.before.before.before.before.before.before.before.before) Deactivated c.is_shut.result
-shut c = finds_shut _ _ _ _ (from-mode c.before).requires.0 c.is_shut.ensures
+shut c = finds_shut _ _ _ _ c.requires.0 c.is_shut.ensures
 
 past_shut : (c : Else4) → Past c.before.before.before.before.before.before.before.before.before.before 4
 unfolding bound_checks
@@ -126,7 +126,7 @@ unfolding bound_checks
 returns-then-is_shut c = is-first (past-mode c.before.before) (shut c.before) c.if-is_shut.true
 
 never : (c : After-is_never) → Finds (Known c.before.before.before.before.before.before.before.before.before.before.before) Never c.is_never.result
-never c = finds_never _ _ _ _ (from_shut c.before).requires.0 c.is_never.ensures
+never c = finds_never _ _ _ _ c.requires.0 c.is_never.ensures
 
 past-never : (c : Else5) → Past c.before.before.before.before.before.before.before.before.before.before.before.before 5
 unfolding bound_checks
@@ -138,7 +138,7 @@ returns-then-is_never c = is-first (past_shut c.before.before) (never c.before) 
 
 offset : (c : After-offset_outside) → Finds (Known c.before.before.before.before.before.before.before.before.before.before.before.before.before) OffsetOutside c.offset_outside.result
 unfolding offset_of
-offset c = finds_offset _ _ _ _ (from-never c.before).requires.0 c.offset_outside.ensures
+offset c = finds_offset _ _ _ _ c.requires.0 c.offset_outside.ensures
 
 past_offset : (c : Else6) → Past c.before.before.before.before.before.before.before.before.before.before.before.before.before.before 6
 unfolding bound_checks
@@ -151,10 +151,10 @@ returns-then-offset_outside c = is-first (past-never c.before.before) (offset c.
 pub no_record-requires : goal.no_record-requires
 no_record-requires c =
     let p = c.requires in
-    (p.0, p.1, told c.kind_fits.ensures (not-false _ (not_from_true _ c.if-not-kind_fits.false)))
+    (p.0, p.1, told c.kind_fits.ensures c.if-not-kind_fits.false)
 
 named : (c : After-no_record) → Finds (Known c.before.before.before.before.before.before.before.before.before.before.before.before.before.before.before.before) NoRecord c.no_record.result
-named c = finds_record _ _ _ _ (from_offset c.before.before).requires.0 c.no_record.ensures
+named c = finds_record _ _ _ _ c.requires.0 c.no_record.ensures
 
 past-named : (c : Else7) → Past c.before.before.before.before.before.before.before.before.before.before.before.before.before.before.before.before.before 7
 unfolding bound_checks
@@ -166,7 +166,7 @@ returns-then-no_record c = is-first (past_offset c.before.before.before) (named 
 
 length : (c : After-length_fits) → Finds (Known c.before.before.before.before.before.before.before.before.before.before.before.before.before.before.before.before.before.before) WrongLength (not c.length_fits.result)
 unfolding offset_of
-length c = finds_length _ _ _ _ (from_named c.before).requires.0 c.length_fits.ensures
+length c = finds_length _ _ _ _ c.requires.0 c.length_fits.ensures
 
 pub returns-then-not-length_fits : goal.returns-then-not-length_fits
 unfolding bound_checks

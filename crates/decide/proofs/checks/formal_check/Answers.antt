@@ -25,35 +25,35 @@ Start = lts.Start tie.the-claims reads.Pre reads.Post
 abbrev Else1 : Type 0
 Else1 = lts.Else1 tie.the-claims reads.Pre reads.Post
 
-abbrev After-is_known : Type 0
-After-is_known = lts.After-is_known tie.the-claims reads.Pre reads.Post
-
 abbrev Else2 : Type 0
 Else2 = lts.Else2 tie.the-claims reads.Pre reads.Post
 
-abbrev After-class_of : Type 0
-After-class_of = lts.After-class_of tie.the-claims reads.Pre reads.Post
+abbrev After-is_known : Type 0
+After-is_known = lts.After-is_known tie.the-claims reads.Pre reads.Post
 
 abbrev Else3 : Type 0
 Else3 = lts.Else3 tie.the-claims reads.Pre reads.Post
 
-abbrev After-is_outgoing : Type 0
-After-is_outgoing = lts.After-is_outgoing tie.the-claims reads.Pre reads.Post
+abbrev After-class_of : Type 0
+After-class_of = lts.After-class_of tie.the-claims reads.Pre reads.Post
 
 abbrev Else4 : Type 0
 Else4 = lts.Else4 tie.the-claims reads.Pre reads.Post
 
-abbrev After-wrong_case : Type 0
-After-wrong_case = lts.After-wrong_case tie.the-claims reads.Pre reads.Post
+abbrev After-is_outgoing : Type 0
+After-is_outgoing = lts.After-is_outgoing tie.the-claims reads.Pre reads.Post
 
 abbrev Else5 : Type 0
 Else5 = lts.Else5 tie.the-claims reads.Pre reads.Post
 
-abbrev After-parameters_fit : Type 0
-After-parameters_fit = lts.After-parameters_fit tie.the-claims reads.Pre reads.Post
+abbrev After-wrong_case : Type 0
+After-wrong_case = lts.After-wrong_case tie.the-claims reads.Pre reads.Post
 
 abbrev Else6 : Type 0
 Else6 = lts.Else6 tie.the-claims reads.Pre reads.Post
+
+abbrev After-parameters_fit : Type 0
+After-parameters_fit = lts.After-parameters_fit tie.the-claims reads.Pre reads.Post
 
 abbrev After-wrong_domain : Type 0
 After-wrong_domain = lts.After-wrong_domain tie.the-claims reads.Pre reads.Post
@@ -70,14 +70,14 @@ form s = finds_form _ _ _ s.requires
 
 past_form : (c : Else1) → Past c.before.before 1
 unfolding formal_checks
-past_form c = passes (all_left (Known c.before.before) formal_checks) (form c.before.before) (not_from_true _ c.if-not-c.false)
+past_form c = passes (all_left (Known c.before.before) formal_checks) (form c.before.before) c.if-not-c.false
 
 pub returns-then-not-c : goal.returns-then-not-c
 unfolding formal_checks
-returns-then-not-c c = is-first (all_left (Known c.before.before) formal_checks) (form c.before.before) (not_from_false _ c.if-not-c.true)
+returns-then-not-c c = is-first (all_left (Known c.before.before) formal_checks) (form c.before.before) c.if-not-c.true
 
 instruction : (c : After-is_known) → Finds (Known c.before.before.before) UnknownInstruction (not c.is_known.result)
-instruction c = finds_instruction _ _ _ (from_form c.before).requires c.is_known.ensures
+instruction c = finds_instruction _ _ _ c.requires c.is_known.ensures
 
 past-instruction : (c : Else2) → Past c.before.before.before.before 2
 unfolding formal_checks
@@ -87,8 +87,8 @@ pub returns-then-not-is_known : goal.returns-then-not-is_known
 unfolding formal_checks
 returns-then-not-is_known c = is-first (past_form c.before.before) (instruction c.before) (not_from_false _ c.if-not-is_known.true)
 
-class : (c : After-class_of) → Finds (Known c.before.before.before.before.before) WrongClass (not (eqb (from-instruction c.before).args.c.class c.class_of.result))
-class c = finds_class _ _ _ (from-instruction c.before).requires c.class_of.ensures
+class : (c : After-class_of) → Finds (Known c.before.before.before.before.before) WrongClass (not (eqb c.args.c.class c.class_of.result))
+class c = finds_class _ _ _ c.requires c.class_of.ensures
 
 past-class : (c : Else3) → Past c.before.before.before.before.before.before.before 3
 unfolding formal_checks
@@ -98,8 +98,8 @@ pub returns-then-c-class_of : goal.returns-then-c-class_of
 unfolding formal_checks
 returns-then-c-class_of c = is-first (past-instruction c.before.before.before) (class c.before.before) (ap not (ne_eqb _ _ c.if-c-class_of.true))
 
-after : (c : After-is_outgoing) → Finds (Known c.before.before.before.before.before.before.before.before) BytesAfter (c.is_outgoing.result && (from-class c.before).args.c.after)
-after c = finds_after _ _ _ (from-class c.before).requires c.is_outgoing.ensures
+after : (c : After-is_outgoing) → Finds (Known c.before.before.before.before.before.before.before.before) BytesAfter (c.is_outgoing.result && c.args.c.after)
+after c = finds_after _ _ _ c.requires c.is_outgoing.ensures
 
 past_after : (c : Else4) → Past c.before.before.before.before.before.before.before.before.before.before 4
 unfolding formal_checks
@@ -110,7 +110,7 @@ unfolding formal_checks
 returns-then-is_outgoing-c c = is-first (past-class c.before.before.before) (after c.before.before) c.if-is_outgoing-c.true
 
 case : (c : After-wrong_case) → Finds (Known c.before.before.before.before.before.before.before.before.before.before.before) WrongCase c.wrong_case.result
-case c = finds_case _ _ _ (from-after c.before).requires c.wrong_case.ensures
+case c = finds_case _ _ _ c.requires c.wrong_case.ensures
 
 past-case : (c : Else5) → Past c.before.before.before.before.before.before.before.before.before.before.before.before 5
 unfolding formal_checks
@@ -121,7 +121,7 @@ unfolding formal_checks
 returns-then-wrong_case c = is-first (past_after c.before.before) (case c.before) c.if-wrong_case.true
 
 parameters : (c : After-parameters_fit) → Finds (Known c.before.before.before.before.before.before.before.before.before.before.before.before.before) WrongParameters (not c.parameters_fit.result)
-parameters c = finds_parameters _ _ _ (from-case c.before).requires c.parameters_fit.ensures
+parameters c = finds_parameters _ _ _ c.requires c.parameters_fit.ensures
 
 past_parameters : (c : Else6) → Past c.before.before.before.before.before.before.before.before.before.before.before.before.before.before 6
 unfolding formal_checks
@@ -132,7 +132,7 @@ unfolding formal_checks
 returns-then-not-parameters_fit c = is-first (past-case c.before.before) (parameters c.before) (not_from_false _ c.if-not-parameters_fit.true)
 
 domain : (c : After-wrong_domain) → Finds (Known c.before.before.before.before.before.before.before.before.before.before.before.before.before.before.before) WrongDomain c.wrong_domain.result
-domain c = finds_domain _ _ _ (from_parameters c.before).requires c.wrong_domain.ensures
+domain c = finds_domain _ _ _ c.requires c.wrong_domain.ensures
 
 pub returns-then-wrong_domain : goal.returns-then-wrong_domain
 unfolding formal_checks

@@ -3,7 +3,6 @@ use mathlib.Core.Path.{◌≡◌, ap, subst, ◌∙◌}
 use mathlib.Core.Bool.{true, false, not, ◌&&◌}
 use Prim.Native.Nat.{ℕ}
 use lib.Dec.{eqb}
-use borrow.Author.Tests.{not-true, not-false}
 use Rattle.card.specs.declared.Row.{Row}
 use Rattle.octets.proofs.Picks.{told}
 use Rattle.decide.proofs.Order.{record_kind}
@@ -12,22 +11,21 @@ use Rattle.command.specs.Instructions.{is_record}
 use Rattle.plan.specs.Files.{has_record}
 use Rattle.plan.specs.Plans.{named_by}
 use Rattle.decide.specs.Fails.{no_record}
-use Rattle.std.proofs.lemmas.Bool.{not_from_true, not_from_false}
 use Rattle.decide.proofs.checks.no_record.Goals as goal
 
 pub returns-then-not-is_record : goal.returns-then-not-is_record
 unfolding no_record
-returns-then-not-is_record c = rw (c.requires.0, ← c.is_record.ensures, not-true c.is_record.result (not_from_false _ c.if-not-is_record.true))
+returns-then-not-is_record c = rw (c.requires.0, ← c.is_record.ensures, c.if-not-is_record.true)
 
 pub returns-then-i-r : goal.returns-then-i-r
 unfolding no_record
-returns-then-i-r c = rw (c.requires.0, ← c.is_record.ensures, not-false c.is_record.result (not_from_true _ c.if-not-is_record.false), c.if-i-r.true)
+returns-then-i-r c = rw (c.requires.0, ← c.is_record.ensures, c.if-not-is_record.false, c.if-i-r.true)
 
 pub record_of-requires : goal.record_of-requires
-record_of-requires c = c.requires.1 (record_kind _ _ (told c.is_record.ensures (not-false _ (not_from_true _ c.if-not-is_record.false))) c.requires.2)
+record_of-requires c = c.requires.1 (record_kind _ _ (told c.is_record.ensures c.if-not-is_record.false) c.requires.2)
 
 pub has_record-requires : goal.has_record-requires
-has_record-requires c = record-of-requires c.before κs
+has_record-requires c = c.requires.1 (record_kind _ _ (told c.is_record.ensures c.if-not-is_record.false) c.requires.2)
 
 -- a command that names its record
 named : (c : Command) (n : ℕ) (r : Row) {i : ℕ} → c.instruction ≡ i → is_record i ≡ true → (eqb i 0xDC && eqb r.kind 6) ≡ false → not (has_record r (named_by c n r)) ≡ no_record c n r
@@ -37,4 +35,4 @@ named c n r e = subst (λ i. is_record i ≡ true → (eqb i 0xDC && eqb r.kind 
 pub returns : goal.returns
 returns c =
     ap not (c.has_record.ensures ∙ ap (has_record c.args.r) c.record_of.ensures)
-    ∙ named c.args.c c.args.number c.args.r c.requires.0 (told c.is_record.ensures (not-false _ (not_from_true _ c.if-not-is_record.false))) c.if-i-r.false
+    ∙ named c.args.c c.args.number c.args.r c.requires.0 (told c.is_record.ensures c.if-not-is_record.false) c.if-i-r.false

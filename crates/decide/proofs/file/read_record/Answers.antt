@@ -13,11 +13,18 @@ use Rattle.decide.proofs.file.read_record.Lts as lts
 use Rattle.decide.proofs.file.read_record.Reads as reads
 use Rattle.decide.proofs.file.read_record.Tie as tie
 
-abbrev Past-After-enum_told : Type 0
-Past-After-enum_told = lts.Past-After-enum_told tie.the-claims reads.Pre reads.Post
+abbrev After-target_row : Type 0
+After-target_row = lts.After-target_row tie.the-claims reads.Pre reads.Post
 
 abbrev Start : Type 0
 Start = lts.Start tie.the-claims reads.Pre reads.Post
+
+abbrev Past-After-enum_told : Type 0
+Past-After-enum_told = lts.Past-After-enum_told tie.the-claims reads.Pre reads.Post
+
+-- where the file's row was read from, and where all checks are passed
+abbrev start : After-target_row → Start
+start c = c.before.before.before.before
 
 pub target_row-r-requires : goal.target_row-r-requires
 target_row-r-requires c = entry-inside c.requires.0
@@ -32,7 +39,7 @@ returns-in-Failed c =
 -- what is known where all checks are passed
 module _ (c : Past-After-enum_told) where
   abbrev s : Start
-  s = start (row_at c)
+  s = start c.before.before
 
   known : Known (length s.args.files.now) s.args.c (length s.args.«data».now) s.args.s c.target_row-r.result
   known = check_passed s.args.«data».now c.target_row-r.ensures c.checked.ensures c.in_default.is s.requires.0
@@ -46,8 +53,6 @@ read_record-requires c =
 pub returns : goal.returns
 unfolding situation file_at done_by pick
 returns c = λ format bytes.
-    let k = c.before in
-    let s = start (row_at k) in
-    check_plainly k.target_row-r.ensures k.checked.ensures k.in_default.is s.requires.1 refl
-    (λ journal. c.read_record.ensures.0 s.args.«data».now bytes _ (sym k.target_row-r.ensures.0))
+    check_plainly c.target_row-r.ensures c.checked.ensures c.in_default.is c.requires.1 refl
+    (λ journal. c.read_record.ensures.0 c.args.«data».now bytes _ (sym c.target_row-r.ensures.0))
     (none-fits _ _ _ c.read_record.ensures.1)

@@ -12,11 +12,18 @@ use Rattle.decide.proofs.file.search.Lts as lts
 use Rattle.decide.proofs.file.search.Reads as reads
 use Rattle.decide.proofs.file.search.Tie as tie
 
-abbrev Past-After-enum_told : Type 0
-Past-After-enum_told = lts.Past-After-enum_told tie.the-claims reads.Pre reads.Post
+abbrev After-target_row : Type 0
+After-target_row = lts.After-target_row tie.the-claims reads.Pre reads.Post
 
 abbrev Start : Type 0
 Start = lts.Start tie.the-claims reads.Pre reads.Post
+
+abbrev Past-After-enum_told : Type 0
+Past-After-enum_told = lts.Past-After-enum_told tie.the-claims reads.Pre reads.Post
+
+-- where the file's row was read from, and where all checks are passed
+abbrev start : After-target_row → Start
+start c = c.before.before.before.before.before
 
 pub target_row-r-requires : goal.target_row-r-requires
 target_row-r-requires c = entry-inside c.requires.0
@@ -31,7 +38,7 @@ returns-in-Failed c =
 -- what is known where all checks are passed
 module _ (c : Past-After-enum_told) where
   abbrev s : Start
-  s = start (row_at c)
+  s = start c.before.before
 
   known : Known (length s.args.files.now) s.args.c (length s.args.«data».now) s.args.s c.target_row-r.result
   known = check_passed s.args.«data».now c.target_row-r.ensures c.checked.ensures c.in_default.is s.requires.0

@@ -38,10 +38,10 @@ slice_bounds-number_of-count c =
     omega arith
 
 pub slice_bounds-number_of-start : goal.slice_bounds-number_of-start
-slice_bounds-number_of-start c = (value_lies _ _ _ c.before.before.before.from.given.1 c.before.before.before.before.before.value-at.ensures.1).0
+slice_bounds-number_of-start c = (value_lies _ _ _ c.in-At.is c.value_at.ensures.1).0
 
 pub slice_bounds-number_of-end : goal.slice_bounds-number_of-end
-slice_bounds-number_of-end c = (value_lies _ _ _ c.before.before.before.from.given.1 c.before.before.before.before.before.value-at.ensures.1).1
+slice_bounds-number_of-end c = (value_lies _ _ _ c.in-At.is c.value_at.ensures.1).1
 
 pub returns-in_default-number_of : goal.returns-in_default-number_of
 unfolding before FieldFits

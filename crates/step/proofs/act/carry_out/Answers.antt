@@ -11,24 +11,27 @@ use Rattle.step.proofs.act.carry_out.Lts as lts
 use Rattle.step.proofs.act.carry_out.Reads as reads
 use Rattle.step.proofs.act.carry_out.Tie as tie
 
+abbrev After-struct_known : Type 0
+After-struct_known = lts.After-struct_known tie.the-claims reads.Pre reads.Post
+
 abbrev Start : Type 0
 Start = lts.Start tie.the-claims reads.Pre reads.Post
 
 -- where it starts, from where the decision is known
-abbrev start : goal.After-struct_known-1 → Start
+abbrev start : After-struct_known → Start
 start c =
     let at-slices = c.before.before.before.before in
     at-slices.before.before.before.before
 
 pub perform-requires : goal.perform-requires
-perform-requires c = (start c.before.before.before).requires.0
+perform-requires c = (start c.before.before.before.before).requires.0
 
 -- what was made is as long as the decision says
-made_long : (c : goal.After-struct_known-1) → length (take (start c).args.d.made (start c).args.made.now) ≡ (start c).args.d.made
+made_long : (c : After-struct_known) → length (take (start c).args.d.made (start c).args.made.now) ≡ (start c).args.d.made
 made_long c = length-take-le (start c).args.d.made (start c).args.made.now (omega (arith, cast-n c, (start c).requires.0.made))
 
 -- where the decision is known, from where the change was performed and the arguments of the copy are ready
-abbrev known : tie.After-copy-arg2 → goal.After-struct_known-1
+abbrev known : tie.After-copy-arg2 → After-struct_known
 known c =
     let at-journal = c.before.before.before in
     let at_table = at-journal.before.before.before.before in
@@ -39,7 +42,7 @@ pub slice_bounds-copy-end : goal.slice_bounds-copy-end
 slice_bounds-copy-end c = sym (made_long (known c))
 
 pub copy-requires : goal.copy-requires
-copy-requires c = let k = known c in rw (made_long k) (omega (arith, cast-n k, (start k).pre.1))
+copy-requires c = let k = known c in rw (made_long k) (omega (arith, cast-n k, (start k).requires.1))
 
 pub returns : goal.returns
 unfolding plan_of carried_out

@@ -39,7 +39,7 @@ module _ (s : Start) {other : Change} (same : s.args.change ≡ other) where
   fits = known_fits same s.args.«data».now s.args.made.now (length s.args.table.now) (length s.args.files.now) s.requires.fits
 
   left : HasRoom s.args.journal.now (changes.cost (writes_of other s.args.«data».now s.args.made.now))
-  left = known_left same s.args.«data».now s.args.made.now s.args.journal.now s.pre.left
+  left = known_left same s.args.«data».now s.args.made.now s.args.journal.now s.requires.left
 
   steps : {d : Card} → d ≡ changes.perform (writes_of other s.args.«data».now s.args.made.now) (whole s) → d ≡ changes.perform (writes_of s.args.change s.args.«data».now s.args.made.now) (whole s)
   steps = known_steps same s.args.«data».now s.args.made.now (whole s)
@@ -51,7 +51,7 @@ sum_long s r same = length-take-le r.record_length s.args.made.now (omega (arith
 
 -- what the card's lent memories are known to be in front of the arms
 abbrev start : After-slice_known3 → Start
-start k = k.before.before.before.before.before
+start c = c.before.before.before.before.before
 
 short : (s : Start) → length s.args.journal.now ≤ 65535
 short s = omega (arith, s.requires.short)
@@ -59,110 +59,77 @@ short s = omega (arith, s.requires.short)
 pub write-requires : goal.write-requires
 unfolding Fits changes.cost writes_of
 write-requires c =
-    let at_head_of = c.before.before in
-    let at-change = at_head_of.before.before.before in
-    let s = start at-change.before.before in
-    let same = at-change.in-Content.is in
-    let own = at_head_of.head_of-head.ensures.0 in
+    let same = c.in-Content.is in
+    let own = c.head_of-head.ensures.0 in
     record {
-      inside = (fits s same).0;
-      within = (fits s same).1;
+      inside = (fits c.before.before.before.before.before.before.before.before.before.before same).0;
+      within = (fits c.before.before.before.before.before.before.before.before.before.before same).1;
       head = own;
-      short = short s;
-      left = omega (arith, left s same, own_used _ own);
+      short = short c.before.before.before.before.before.before.before.before.before.before;
+      left = omega (arith, left c.before.before.before.before.before.before.before.before.before.before same, own_used _ own);
     }
 
 pub write_record-requires : goal.write_record-requires
 unfolding Fits writes_of
 write_record-requires c =
-    let at_head_of = c.before.before.before in
-    let at-change = at_head_of.before.before.before in
-    let s = start at-change.before.before in
-    let same = at-change.in-DataRecord.is in
-    record { fits = (fits s same).0; whole = (fits s same).1; head = at_head_of.head_of-head-in-DataRecord.ensures.0; short = short s; left = left s same }
+    let same = c.in-DataRecord.is in
+    record { fits = (fits c.before.before.before.before.before.before.before.before.before.before.before same).0; whole = (fits c.before.before.before.before.before.before.before.before.before.before.before same).1; head = c.head_of-head-in-DataRecord.ensures.0; short = short c.before.before.before.before.before.before.before.before.before.before.before; left = left c.before.before.before.before.before.before.before.before.before.before.before same }
 
 pub slice_bounds-write_record-end : goal.slice_bounds-write_record-end
 slice_bounds-write_record-end c =
-    let at_head_of = c.before.before.before.before in
-    let at-change = at_head_of.before.before.before in
-    let sum = at-change.change-in-SumRecord-1.given in
-    sym (sum_long (start at-change.before.before) sum.0.0 sum.1)
+    sym (sum_long c.before.before.before.before.before.before.before.before.before.before.before c.in-SumRecord.r c.in-SumRecord.is)
 
 pub write_record-requires-in-SumRecord : goal.write_record-requires-in-SumRecord
 unfolding Fits writes_of
 write_record-requires-in-SumRecord c =
-    let at_head_of = c.before.before.before.before in
-    let at-change = at_head_of.before.before.before in
-    let s = start at-change.before.before in
-    let sum = at-change.change-in-SumRecord-1.given in
     record {
-      fits = (fits s sum.1).0;
-      whole = sum_long s sum.0.0 sum.1;
-      head = at_head_of.head_of-head-in-SumRecord.ensures.0;
-      short = short s;
-      left = left s sum.1;
+      fits = (fits c.before.before.before.before.before.before.before.before.before.before.before c.in-SumRecord.is).0;
+      whole = sum_long c.before.before.before.before.before.before.before.before.before.before.before c.in-SumRecord.r c.in-SumRecord.is;
+      head = c.head_of-head-in-SumRecord.ensures.0;
+      short = short c.before.before.before.before.before.before.before.before.before.before.before;
+      left = left c.before.before.before.before.before.before.before.before.before.before.before c.in-SumRecord.is;
     }
 
 pub overflow_cast-byte : goal.overflow_cast-byte
 unfolding Fits
 overflow_cast-byte c =
-    let at-change = c.before in
-    omega (arith, (fits (start at-change.before.before) at-change.in-TableByte.is).1)
+    omega (arith, (fits c.before.before.before.before.before.before.before c.in-TableByte.is).1)
 
 pub write-requires-in-TableByte : goal.write-requires-in-TableByte
 unfolding Fits changes.cost writes_of
 write-requires-in-TableByte c =
-    let at_head_of = c.before.before.before in
-    let at-change = at_head_of.before.before.before in
-    let s = start at-change.before.before in
-    let same = at-change.in-TableByte.is in
-    let own = at_head_of.head_of-head-in-TableByte.ensures.0 in
+    let same = c.in-TableByte.is in
+    let own = c.head_of-head-in-TableByte.ensures.0 in
     record {
-      inside = omega (arith, (fits s same).0);
+      inside = omega (arith, (fits c.before.before.before.before.before.before.before.before.before.before.before same).0);
       within = omega arith;
       head = own;
-      short = short s;
-      left = omega (arith, left s same, own_used _ own);
+      short = short c.before.before.before.before.before.before.before.before.before.before.before;
+      left = omega (arith, left c.before.before.before.before.before.before.before.before.before.before.before same, own_used _ own);
     }
 
 pub returns-in-Nothing : goal.returns-in-Nothing
 unfolding changes.perform writes_of
-returns-in-Nothing c = steps (start c.before.before) c.in-Nothing.is refl
+returns-in-Nothing c = steps c.before.before.before.before.before.before.before c.in-Nothing.is refl
 
 pub returns-in-Content : goal.returns-in-Content
 unfolding changes.perform writes_of changes.with_memory changes.with_journal changes.memory_of
 returns-in-Content c =
-    let at-write = c.before.before.before.before in
-    let at_head_of = at-write.before.before.before in
-    let at-change = at_head_of.before.before.before in
-    let s = start at-change.before.before in
-    let content = at-change.change-1.given in
-    let w = at-write.write.ensures in
-    steps s content.1 (one-write Files (whole s) (content.0.0 + content.0.1.1.0) s.args.«data».now w.0 w.1)
+    let w = c.write.ensures in
+    steps c.before.before.before.before.before.before.before.before.before.before.before.before.before.before.before c.in-Content.is (one-write Files (whole c.before.before.before.before.before.before.before.before.before.before.before.before.before.before.before) (c.in-Content.start + c.in-Content.offset) c.args.«data».now w.0 w.1)
 
 pub returns-in-DataRecord : goal.returns-in-DataRecord
 unfolding writes_of
 returns-in-DataRecord c =
-    let at-write = c.before.before.before.before.before.before in
-    let at_head_of = at-write.before.before.before.before in
-    let at-change = at_head_of.before.before.before in
-    steps (start at-change.before.before) at-change.in-DataRecord.is at-write.write_record.ensures
+    steps c.before.before.before.before.before.before.before.before.before.before.before.before.before.before.before.before.before.before c.in-DataRecord.is c.write_record.ensures
 
 pub returns-in-SumRecord : goal.returns-in-SumRecord
 unfolding writes_of
 returns-in-SumRecord c =
-    let at-write = c.before.before.before.before.before.before in
-    let at_head_of = at-write.before.before.before.before.before in
-    let at-change = at_head_of.before.before.before in
-    steps (start at-change.before.before) at-change.in-SumRecord.is at-write.write_record-in-SumRecord.ensures
+    steps c.before.before.before.before.before.before.before.before.before.before.before.before.before.before.before.before.before.before c.in-SumRecord.is c.write_record-in-SumRecord.ensures
 
 pub returns-in-TableByte : goal.returns-in-TableByte
 unfolding changes.perform writes_of
 returns-in-TableByte c =
-    let at-write = c.before.before.before.before in
-    let at_head_of = at-write.before.before.before.before in
-    let at-change = at_head_of.before.before.before in
-    let s = start at-change.before.before in
-    let byte = at-change.change-in-TableByte-1.given in
-    let w = at-write.write-in-TableByte.ensures in
-    steps s byte.1 (table-write s.args.table.now s.args.files.now s.args.journal.now byte.0.0 byte.0.1.0 refl w.0 w.1)
+    let w = c.write-in-TableByte.ensures in
+    steps c.before.before.before.before.before.before.before.before.before.before.before.before.before.before.before.before c.in-TableByte.is (table-write c.args.table.now c.args.files.now c.args.journal.now c.in-TableByte.place c.in-TableByte.new refl w.0 w.1)

@@ -6,9 +6,15 @@ use Rattle.step.specs.Limits.{rapdu_size}
 use Rattle.step.proofs.Limited.{counts_so, none_counts, passing, within}
 use Rattle.octets.proofs.Picks.{told}
 use Rattle.step.proofs.limit.limited.Goals as goal
+use Rattle.step.proofs.limit.limited.Lts as lts
+use Rattle.step.proofs.limit.limited.Reads as reads
+use Rattle.step.proofs.limit.limited.Tie as tie
+
+abbrev After-rapdu_size : Type 0
+After-rapdu_size = lts.After-rapdu_size tie.the-claims reads.Pre reads.Post
 
 -- the size is that of the R-APDU
-size : (c : goal.After-rapdu_size) → c.rapdu_size.result ≡ rapdu_size (data_count c.args.d.outcome)
+size : (c : After-rapdu_size) → c.rapdu_size.result ≡ rapdu_size (data_count c.args.d.outcome)
 size c = c.rapdu_size.ensures.0 ∙ ap rapdu_size c.data_count.ensures
 
 pub returns-then-kept-rapdu_size-gt-MOST_KEPT : goal.returns-then-kept-rapdu_size-gt-MOST_KEPT
