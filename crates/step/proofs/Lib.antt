@@ -4,6 +4,4 @@ pub mod Keeps
 pub mod Handed
 pub mod Errors
 pub mod Apart
-pub mod Walks
-pub mod Relent
 pub mod Determined
