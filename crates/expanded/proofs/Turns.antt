@@ -27,7 +27,7 @@ use Rattle.step.specs.Promised.{RunCommandAsks}
 use Rattle.step.specs.Steps.{Moved, moved_to, commanded}
 use Rattle.step.specs.declared.lent.Ended.{Ended}
 use Rattle.step.proofs.Keeps.{Holds}
-use Rattle.step.proofs.Relent.{one_more}
+use Rattle.step.proofs.Moved.{one_more}
 use Rattle.expanded.specs.declared.run.Gathered.{Gathered}
 use Rattle.expanded.specs.declared.run.Rapdus.{Rapdus}
 use Rattle.expanded.specs.declared.run.Next.{Next}

@@ -4,4 +4,5 @@ pub mod Keeps
 pub mod Handed
 pub mod Errors
 pub mod Apart
+pub mod Moved
 pub mod Determined

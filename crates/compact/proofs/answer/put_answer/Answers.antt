@@ -7,7 +7,7 @@ use Rattle.compact.proofs.answer.put_answer.Goals as goal
 
 pub returns : goal.returns
 returns c =
-    let long : length c.args.step.session.waiting ≡ most_waiting = c.put_data-arg-3-1.given.0 in (
+    let long : length c.args.step.session.waiting ≡ most_waiting = c.put_data-arg-3-1.given in (
       answer_steps c.args.step c.args.files.now c.requires.0 long c.args.response.now _ _ _ _ c.requires.2
           c.fill.ensures
           c.word_of.ensures

@@ -13,4 +13,4 @@ returns-then-script-at c =
 
 pub returns : goal.returns
 returns c =
-    (whole c.args.script.now c.args.at c.wide-i.ensures.0 c.wide.ensures.0 c.data_behind-size.ensures.0 (omega arith) (omega arith) c.whole_at.ensures, whole-fits c.args.script.now c.args.at _ _ c.whole_at.ensures (omega arith) (omega arith) (λ i. (c.shared-slice-known.given i).fits))
+    (whole c.args.script.now c.args.at c.wide-i.ensures.0 c.wide.ensures.0 c.data_behind-size.ensures.0 (omega arith) (omega arith) c.whole_at.ensures, whole-fits c.args.script.now c.args.at _ _ c.whole_at.ensures (omega arith) (omega arith) (λ i. (c.shared_slice_known-1.given i).fits))

@@ -15,8 +15,8 @@ overflow_add-result c =
 pub returns-then-goes_on : goal.returns-then-goes_on
 unfolding place_after
 returns-then-goes_on c =
-    yes _ _ (sym (ap goes_on c.word_of.ensures) ∙ sym c.goes_on_lem.ensures ∙ c.if-goes_on.true) refl
+    yes _ _ (sym (ap goes_on c.word_of.ensures) ∙ sym c.goes_on.ensures ∙ c.if-goes_on.true) refl
 
 pub returns : goal.returns
 returns c =
-    no _ _ (sym (ap goes_on c.word_of.ensures) ∙ sym c.goes_on_lem.ensures ∙ c.if-goes_on.false) refl
+    no _ _ (sym (ap goes_on c.word_of.ensures) ∙ sym c.goes_on.ensures ∙ c.if-goes_on.false) refl

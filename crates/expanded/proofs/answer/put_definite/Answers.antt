@@ -17,43 +17,28 @@ abbrev After-count_size : Type 0
 After-count_size = lts.After-count_size tie.the-claims reads.Pre reads.Post
 
 -- the length of what stands behind the first length takes at most three bytes
-few : (k : After-count_size) → length (length_bytes (2 + (k.count_size.result + length k.before.before.before.args.rapdus.now))) ≤ 3
-few k = length-few (2 + (k.count_size.result + length k.before.before.before.args.rapdus.now))
+few : (k : After-count_size) → length (length_bytes (2 + (k.count_size-size.result + length k.args.rapdus.now))) ≤ 3
+few k = length-few (2 + (k.count_size-size.result + length k.args.rapdus.now))
 
 pub copy-requires : goal.copy-requires
 copy-requires c =
-    let to-point = c.before.before.before.before.before.before in
-    let at-point = to-point.before.before.before.before in
-    omega (arith, few (at-point))
+    omega (arith, few c.before.before.before.before.before.before.before.before.before.before.before)
 
 pub overflow_add-at : goal.overflow_add-at
 overflow_add-at c =
-    let to-point = c.before.before.before.before.before.before in
-    let to-point' = to-point.before.before.before.before.before.before in
-    let at-point = to-point'.before.before in
-    omega (arith, few (at-point))
+    omega (arith, few c.before.before.before.before.before.before.before.before.before.before.before.before.before.before.before)
 
 pub put_count-from-requires : goal.put_count-from-requires
 put_count-from-requires c =
-    let to-point = c.before.before.before.before.before.before in
-    let to-point' = to-point.before.before.before.before.before.before in
-    let at-point = to-point'.before.before in
-    omega (arith, few (at-point))
+    omega (arith, few c.before.before.before.before.before.before.before.before.before.before.before.before.before.before.before)
 
 pub copy-requires-2 : goal.copy-requires-2
 copy-requires-2 c =
-    let to-point = c.before.before.before.before.before.before in
-    let to-point' = to-point.before.before.before.before.before.before in
-    let at-point = to-point'.before.before.before.before.before.before in
-    omega (arith, few (at-point))
+    omega (arith, few c.before.before.before.before.before.before.before.before.before.before.before.before.before.before.before.before.before.before.before)
 
 pub overflow_add-result : goal.overflow_add-result
 overflow_add-result c =
-    let to-point = c.before.before.before.before.before.before in
-    let to-point' = to-point.before.before.before.before.before.before in
-    let to-point'' = to-point'.before.before.before.before.before.before in
-    let at-point = to-point''.before.before.before in
-    omega (arith, few (at-point))
+    omega (arith, few c.before.before.before.before.before.before.before.before.before.before.before.before.before.before.before.before.before.before.before.before.before.before)
 
 pub returns : goal.returns
 returns c =

@@ -23,9 +23,6 @@ use Rattle.expanded.proofs.answer.put_rapdu.Tie as tie
 abbrev After-put_length : Type 0
 After-put_length = lts.After-put_length tie.the-claims reads.Pre reads.Post
 
-abbrev After-out3 : Type 0
-After-out3 = lts.After-out3 tie.the-claims reads.Pre reads.Post
-
 pub fill-requires : goal.fill-requires
 unfolding rapdu_size
 fill-requires c = omega arith
@@ -43,46 +40,31 @@ put_length-from-requires c =
 
 -- where the data begin
 from : (k : After-put_length)
-    → let to_start = k.before.before.before.before.before in
-    let s = to_start.before.before.before.before.before in
-    k.put_length.result ≡ s.args.at + 1 + length (length_bytes (data_count s.args.o + 2))
+    → k.put_length-from.result ≡ k.args.at + 1 + length (length_bytes (data_count k.args.o + 2))
 from k =
-    let to_start = k.before.before.before.before.before in
-    let s = to_start.before.before.before.before.before in
-    let n : k.before.data_count.result ≡ data_count s.args.o = k.before.data_count.ensures in
-    rw n at k.put_length.ensures.1
-
--- the points of the walk, from where the data are written back to where their length is
-abbrev from-put_data : After-out3 → After-put_length
-from-put_data c = c.before.before.before.before.before
+    let n : k.data_count.result ≡ data_count k.args.o = k.data_count.ensures in
+    rw n at k.put_length-from.ensures.1
 
 pub put_data-end-requires : goal.put_data-end-requires
 unfolding rapdu_size
 put_data-end-requires c =
-    let at-point = c.before.before.before in
-    (at-point.requires.0, at-point.requires.1, omega (arith, from (at-point)))
+    (c.requires.0, c.requires.1, omega (arith, from c.before.before.before.before))
 
 pub put_num-requires : goal.put_num-requires
 unfolding rapdu_size
 put_num-requires c =
-    let to-point = c.before.before.before.before.before.before in
-    let at-point = to-point.before.before in
-    omega (arith, from (at-point))
+    omega (arith, from c.before.before.before.before.before.before.before.before.before)
 
 pub overflow_add-result : goal.overflow_add-result
 unfolding rapdu_size
-overflow_add-result c = omega (arith, from (from-put_data c.before.before.before.before.before.before))
+overflow_add-result c = omega (arith, from c.before.before.before.before.before.before.before.before.before.before.before.before)
 
 pub returns : goal.returns
 returns c =
-    let at-put-num = c.before.before in
-    let at-word-of = at-put-num.before in
-    let at-put-data = at-word-of.before.before.before.before in
-    let l = at-put-data.before.before.before.before in
-    let o = l.args.o in
-    let m = l.args.out.now in
-    let d = data_of o l.args.files.now l.args.waiting.now in
-    let n : l.data_count.result ≡ data_count o = l.data_count.ensures in
-    let h = rapdu-written m l.args.at d at-word-of.word_of.result (sym (data_length_lem o l.args.files.now l.args.waiting.now l.requires.0 l.requires.1)) l.requires.2
-    l.fill.ensures (rw n at l.put_length-from.ensures.0) (from l) at-put-data.put_data-end.ensures.0 at-put-data.put_data-end.ensures.1 at-put-num.put_num.ensures in
-    (h.0 ∙ ap (λ (w : ℕ). overwrite m l.args.at (rapdu d w)) at-word-of.word_of.ensures, h.1)
+    let o = c.args.o in
+    let m = c.args.out.now in
+    let d = data_of o c.args.files.now c.args.waiting.now in
+    let n : c.data_count.result ≡ data_count o = c.data_count.ensures in
+    let h = rapdu-written m c.args.at d c.word_of.result (sym (data_length_lem o c.args.files.now c.args.waiting.now c.requires.0 c.requires.1)) c.requires.2
+    c.fill.ensures (rw n at c.put_length-from.ensures.0) (from c.before.before.before.before.before.before.before.before.before.before.before.before) c.put_data-end.ensures.0 c.put_data-end.ensures.1 c.put_num.ensures in
+    (h.0 ∙ ap (λ (w : ℕ). overwrite m c.args.at (rapdu d w)) c.word_of.ensures, h.1)

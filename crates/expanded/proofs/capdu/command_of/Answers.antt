@@ -6,7 +6,6 @@ use Rattle.octets.specs.Choice.{pick}
 use Rattle.octets.specs.Bytes.{byte}
 use Rattle.octets.proofs.Picks.{le_yes, le_no}
 use Rattle.expanded.proofs.Fits.{read, Told, command-told}
-use Rattle.octets.proofs.Picks.{told}
 use Rattle.expanded.proofs.capdu.command_of.Goals as goal
 use Rattle.expanded.proofs.capdu.command_of.Lts as lts
 use Rattle.expanded.proofs.capdu.command_of.Reads as reads
@@ -14,37 +13,6 @@ use Rattle.expanded.proofs.capdu.command_of.Tie as tie
 
 abbrev After-fifth : Type 0
 After-fifth = lts.After-fifth tie.the-claims reads.Pre reads.Post
-
-abbrev After-wide3 : Type 0
-After-wide3 = lts.After-wide3 tie.the-claims reads.Pre reads.Post
-
-abbrev After-wide2 : Type 0
-After-wide2 = lts.After-wide2 tie.the-claims reads.Pre reads.Post
-
-abbrev After-wide : Type 0
-After-wide = lts.After-wide tie.the-claims reads.Pre reads.Post
-
-abbrev After-case_by_size : Type 0
-After-case_by_size = lts.After-case_by_size tie.the-claims reads.Pre reads.Post
-
-abbrev Start : Type 0
-Start = lts.Start tie.the-claims reads.Pre reads.Post
-
--- the points of the walk, each from the one behind it
-abbrev at_wide3 : After-fifth → After-wide3
-at_wide3 c = c.before.before.before
-
-abbrev at_wide2 : After-fifth → After-wide2
-at_wide2 c = (at_wide3 c).before.before
-
-abbrev at_wide : After-fifth → After-wide
-at_wide c = (at_wide2 c).before.before
-
-abbrev at_case : After-fifth → After-case_by_size
-at_case c = (at_wide c).before.before
-
-abbrev start : After-fifth → Start
-start c = (at_case c).before.before
 
 -- the command, with its case and its bytes, wherever its data lie
 told : (c : After-fifth) {from size : ℕ}
@@ -56,7 +24,7 @@ told c =
     c.wide.ensures.0 c.wide-2.ensures.0 c.wide-3.ensures.0 c.wide-4.ensures.0 c.fifth.ensures.0
 
 pub returns-then-case-ge3 : goal.returns-then-case-ge3
-returns-then-case-ge3 c = told c.before.before (le_yes _ _ _ c.if-case-ge3.true refl) (le_yes _ _ _ c.if-case-ge3.true c.fifth-then-case-ge3.ensures.0)
+returns-then-case-ge3 c = told c.before.before.before (le_yes _ _ _ c.if-case-ge3.true refl) (le_yes _ _ _ c.if-case-ge3.true c.fifth-then-case-ge3.ensures.0)
 
 pub returns : goal.returns
-returns c = told c.before (le_no _ _ _ c.if-case-ge3.false refl) (le_no _ _ _ c.if-case-ge3.false refl)
+returns c = told c.before.before (le_no _ _ _ c.if-case-ge3.false refl) (le_no _ _ _ c.if-case-ge3.false refl)

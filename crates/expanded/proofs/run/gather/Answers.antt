@@ -17,32 +17,22 @@ use Rattle.expanded.proofs.run.gather.Tie as tie
 abbrev After-put_rapdu : Type 0
 After-put_rapdu = lts.After-put_rapdu tie.the-claims reads.Pre reads.Post
 
-abbrev Start : Type 0
-Start = lts.Start tie.the-claims reads.Pre reads.Post
-
--- where it starts, from where the R-APDU was written
-abbrev start : After-put_rapdu → Start
-start c = c.before.before.before.before.before
-
 -- the bytes of the R-APDU
 sized : (c : After-put_rapdu) → let a = c.args in length (rapdu (data_of a.o a.files.now a.waiting.now) (word_of a.o)) ≡ rapdu_size (data_count a.o)
 sized c =
-    let s = start c in
-    let a = s.args in
-    rapdu-length (data_of a.o a.files.now a.waiting.now) _ ∙ ap rapdu_size (data_length_lem a.o a.files.now a.waiting.now s.pre.0 s.pre.1)
+    let a = c.args in
+    rapdu-length (data_of a.o a.files.now a.waiting.now) _ ∙ ap rapdu_size (data_length_lem a.o a.files.now a.waiting.now c.requires.0 c.requires.1)
 
 pub returns-then-counts : goal.returns-then-counts
 unfolding gathered_in
 returns-then-counts c =
-    let at-put = c.before.before.before in
-    let put = at-put.put_rapdu-end in
-    (put.ensures.0, sized at-put, yes at-put.args.counts _ c.if-counts.true (λ i. record { kept = put.ensures.1 i; last = 0 }))
+    let put = c.put_rapdu-end in
+    (put.ensures.0, sized c.before.before.before.before, yes c.args.counts _ c.if-counts.true (λ i. record { kept = put.ensures.1 i; last = 0 }))
 
 pub returns : goal.returns
 unfolding gathered_in
 returns c =
-    let at-put = c.before.before.before in
-    let put = at-put.put_rapdu-end in
-    let a = at-put.args in
+    let put = c.put_rapdu-end in
+    let a = c.args in
     let n : put.result - a.kept ≡ rapdu_size (data_count a.o) = omega arith in
-    (put.ensures.0, sized at-put, no a.counts _ c.if-counts.false (λ i. record { kept = a.kept; last = n i }))
+    (put.ensures.0, sized c.before.before.before.before, no a.counts _ c.if-counts.false (λ i. record { kept = a.kept; last = n i }))

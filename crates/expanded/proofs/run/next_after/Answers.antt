@@ -11,7 +11,7 @@ unfolding next_place
 returns-then-goes_on c =
     let next = c.args.capdu in
     let there : next.from + next.size ≡ next_place next c.args.o c.args.end =
-    yes _ _ (sym (ap goes_on c.word_of.ensures) ∙ sym c.goes_on_lem.ensures ∙ c.if-goes_on.true) refl
+    yes _ _ (sym (ap goes_on c.word_of.ensures) ∙ sym c.goes_on.ensures ∙ c.if-goes_on.true) refl
     in
     (c.next_at.ensures.0 ∙ ap (λ (k : ℕ). next_at c.args.script.now k c.args.end) there, c.next_at.ensures.1)
 
@@ -19,6 +19,6 @@ pub returns : goal.returns
 unfolding next_place
 returns c =
     let there : c.args.end ≡ next_place c.args.capdu c.args.o c.args.end =
-    no _ _ (sym (ap goes_on c.word_of.ensures) ∙ sym c.goes_on_lem.ensures ∙ c.if-goes_on.false) refl
+    no _ _ (sym (ap goes_on c.word_of.ensures) ∙ sym c.goes_on.ensures ∙ c.if-goes_on.false) refl
     in
     (c.next_at-2.ensures.0 ∙ ap (λ (k : ℕ). next_at c.args.script.now k c.args.end) there, c.next_at-2.ensures.1)

@@ -18,11 +18,10 @@ use Rattle.expanded.proofs.run.next_at.Goals as goal
 abbrev no_capdu : ℕ → Next
 no_capdu at = record { at = at; is_capdu = false; from = at; size = 0 }
 
--- an item that is no C-APDU, by its tag
-other : (at : ℕ) (item : Item) → OneOf (1 ∷ 2 ∷ []) (tag_of I.the_type item) → no_capdu at ≡ next_of at item
+-- an item that is no C-APDU
+other : (at : ℕ) (item : Item) → ((from size : ℕ) → item ≡ Capdu from size → ⊥) → no_capdu at ≡ next_of at item
 unfolding next_of
-other at (Capdu from size) (inl e) = absurd (omega arith)
-other at (Capdu from size) (inr e) = absurd (omega arith)
+other at (Capdu from size) e = absurd (e from size refl)
 other at (Bad code) e = refl
 other at End e = refl
 
@@ -33,7 +32,7 @@ one at known = ap (next_of at) (sym known)
 
 pub returns-in_default : goal.returns-in_default
 returns-in_default c =
-    (other c.args.at c.next_item.result c.in-Capdu.in-Capdu-own.keys2 ∙ ap (next_of c.args.at) c.next_item.ensures.0, λ e. absurd (false≢true e))
+    (other c.args.at c.next_item.result c.in_default.not-Capdu ∙ ap (next_of c.args.at) c.next_item.ensures.0, λ e. absurd (false≢true e))
 
 pub returns : goal.returns
 returns c =

@@ -8,4 +8,4 @@ pub returns : goal.returns
 unfolding bad_format
 returns c =
     let put = c.put_bad-place in
-    (λ card. bad_last c.args card c.args.out.now (omega arith) c.args.code (omega arith) put.ensures.0 (omega arith), omega arith)
+    (λ card. bad_last c.args.before card c.args.out.now (omega arith) c.args.code (omega arith) put.ensures.0 (omega arith), omega arith)

@@ -1,0 +1,23 @@
+-- The loop's invariant: the script is `Going` at the place, from the card that it started on to the card as it is. The measure is what is left of the script.
+use Rattle.std.proofs.Common.{◌≡◌, ◌-◌, length}
+use Rattle.card.specs.Row.{lent}
+use Rattle.session.specs.Session.{most_waiting}
+use Rattle.session.specs.declared.Session.{Session}
+use Rattle.command.specs.declared.Step.{Step}
+use Rattle.step.specs.declared.lent.Ended.{Ended}
+use Rattle.compact.proofs.Going.{Going}
+use Rattle.compact.proofs.run.run_lent.Given as goal
+
+-- a session, how the last command ended and the count, as the script's step
+abbrev pub step_of : Session → Ended → Step
+step_of s e = record { session = s; outcome = e.outcome; count = e.count }
+
+abbrev pub invariant-loop-at : goal.invariant-loop-at
+invariant-loop-at l =
+    record {
+      going : Going l.script l.application l.domain (lent l.initial.table l.initial.files l.initial.journal) (lent l.table l.files l.journal) (step_of l.session l.ended) l.at;
+      made : length l.made ≡ most_waiting;
+    }
+
+abbrev pub decreases-loop-at : goal.decreases-loop-at
+decreases-loop-at l = length l.script - l.at

@@ -1,0 +1,11 @@
+-- What a command moves to, and the count of one more, are the script's step after it. Assumes nothing.
+use mathlib.Core.Path.{◌≡◌}
+use Prim.Native.Nat.{◌+◌}
+use Rattle.card.specs.Row.{Card}
+use Rattle.command.specs.declared.Step.{Step}
+use Rattle.step.specs.Steps.{Moved, moved_to, state_of, stepped}
+
+-- a session and an outcome that a command moved to, and the count of one more, are the script's step after it
+pub one_more : (before r : Step) (card after : Card) (m : Moved) → moved_to r.session r.outcome after ≡ m → r.count ≡ before.count + 1 → state_of r after ≡ stepped (state_of before card) m
+unfolding stepped
+one_more before r card after m e counted = λ i. record { step = record { session = (e i).session; outcome = (e i).outcome; count = counted i }; card = (e i).card }
