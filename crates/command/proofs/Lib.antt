@@ -2,5 +2,4 @@ pub mod Lent
 pub mod Outgoing
 pub mod Stops
 pub mod Says
-pub mod Walked
 pub mod Determined

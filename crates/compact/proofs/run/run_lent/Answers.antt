@@ -15,10 +15,9 @@ use Rattle.decide.specs.Decisions.{situation, planned}
 use Rattle.step.specs.Limits.{limited}
 use Rattle.step.specs.Steps.{State, state_of, started, carried_out, stepped, commanded}
 use Rattle.step.proofs.Keeps.{starts-small}
-use Rattle.step.proofs.Moved.{one_more}
+use Rattle.step.proofs.Moved.{one_more, step_of}
 use Rattle.compact.specs.Compact.{step_read}
 use Rattle.compact.proofs.Going.{begins, ends, moves, further}
-use Rattle.compact.proofs.run.run_lent.Invariants.{step_of}
 use Rattle.compact.proofs.run.run_lent.Goals as goal
 
 -- the data of a command that was read are as few as it says

@@ -2,15 +2,9 @@
 use Rattle.std.proofs.Common.{◌≡◌, ◌-◌, length}
 use Rattle.card.specs.Row.{lent}
 use Rattle.session.specs.Session.{most_waiting}
-use Rattle.session.specs.declared.Session.{Session}
-use Rattle.command.specs.declared.Step.{Step}
-use Rattle.step.specs.declared.lent.Ended.{Ended}
+use Rattle.step.proofs.Moved.{step_of}
 use Rattle.compact.proofs.Going.{Going}
 use Rattle.compact.proofs.run.run_lent.Given as goal
-
--- a session, how the last command ended and the count, as the script's step
-abbrev pub step_of : Session → Ended → Step
-step_of s e = record { session = s; outcome = e.outcome; count = e.count }
 
 abbrev pub invariant-loop-at : goal.invariant-loop-at
 invariant-loop-at l =

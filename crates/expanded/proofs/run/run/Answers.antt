@@ -14,18 +14,12 @@ use Rattle.tlv.specs.contracts.template.Item as I
 use Rattle.expanded.specs.Promised.{next_of}
 use Rattle.expanded.proofs.Going.{bad_lies, ends, breaks}
 use Rattle.expanded.proofs.run.run.Goals as goal
-use Rattle.expanded.proofs.run.run.Lts as lts
-use Rattle.expanded.proofs.run.run.Reads as reads
-use Rattle.expanded.proofs.run.run.Tie as tie
 
-
-
--- an item that is no C-APDU and by its tag no Bad format TLV
-nothing_left : (at : ℕ) (item : Item) → (next_of at item).is_capdu ≡ false → OneOf (0 ∷ 2 ∷ []) (tag_of I.the_type item) → item ≡ End
+-- an item that is no C-APDU and no Bad format TLV
+nothing_left : (at : ℕ) (item : Item) → (next_of at item).is_capdu ≡ false → ((code : ℕ) → item ≡ Bad code → ⊥) → item ≡ End
 unfolding next_of
 nothing_left at (Capdu from size) none e = absurd (false≢true (sym none))
-nothing_left at (Bad code) none (inl e) = absurd (omega arith)
-nothing_left at (Bad code) none (inr e) = absurd (omega arith)
+nothing_left at (Bad code) none e = absurd (e code refl)
 nothing_left at End none e = refl
 
 pub returns-in_default : goal.returns-in_default
@@ -33,7 +27,7 @@ returns-in_default c =
     let item = c.next_item in
     let reached = c.run_capdus-reached.ensures in
     let at = c.run_capdus-reached.result.at in
-    let known = nothing_left at item.result (ap (λ (i : Item). (next_of at i).is_capdu) item.ensures.0 ∙ reached.none) c.in-Bad.in-Bad-own.keys2 in
+    let known = nothing_left at item.result (ap (λ (i : Item). (next_of at i).is_capdu) item.ensures.0 ∙ reached.none) c.in_default.not-Bad in
     let d = ends reached item.ensures.0 known in
     (d.0, d.1, omega (arith, d.2, c.requires.inside, c.requires.short))
 
@@ -45,7 +39,7 @@ step_bad-requires c =
       byte = lies.1;
       few = omega (arith, reached.counted, reached.inside, c.requires.inside, c.requires.short);
       kept = reached.kept lies.0;
-      room = omega (arith, c.requires.room, c.run_capdus-reached.kept);
+      room = omega (arith, c.requires.room, c.run_capdus-reached.auto.out);
     }
 
 pub returns : goal.returns
