@@ -13,6 +13,7 @@ use Rattle.journal.proofs.Parts.{card_parts}
 use Rattle.engine.specs.Calls.{gives, numbered}
 use Rattle.engine.proofs.Answers.{answers_number, confirm_unsound, confirm-done}
 use Rattle.octets.proofs.Picks.{told}
+use Rattle.std.proofs.lemmas.Bool.{not_from_true}
 use Rattle.engine.proofs.confirm.Goals as goal
 use Rattle.engine.proofs.confirm.Lts as lts
 use Rattle.engine.proofs.confirm.Reads as reads
@@ -21,18 +22,11 @@ use Rattle.engine.proofs.confirm.Tie as tie
 abbrev Start : Type 0
 Start = lts.Start tie.the-claims reads.Pre reads.Post
 
-abbrev After-sound_card : Type 0
-After-sound_card = lts.After-sound_card tie.the-claims reads.Pre reads.Post
-
 abbrev Else1 : Type 0
 Else1 = lts.Else1 tie.the-claims reads.Pre reads.Post
 
 abbrev card_of : Start → Card
 card_of s = lent s.args.table.now s.args.files.now s.args.journal.now
-
--- where it starts, from where the card is looked at
-abbrev start : After-sound_card → Start
-start c = c.before.before.before.before.before
 
 pub returns-then-not-sound_card : goal.returns-then-not-sound_card
 returns-then-not-sound_card c =
@@ -40,21 +34,18 @@ returns-then-not-sound_card c =
     (sym (confirm_unsound _ (told c.sound_card.ensures c.if-not-sound_card.true)))
 
 -- past the test, the card is sound
-sound : (o : Else1) → sound_card (card_of (start o.before)) ≡ true
-sound o = told-true o.before.sound_card.ensures o.if1.false
+sound : (o : Else1) → sound_card (card_of o.before.before.before.before.before) ≡ true
+sound o = told-true o.sound_card.ensures (not_from_true _ o.if-not-sound_card.false)
 
 pub confirm-requires : goal.confirm-requires
 unfolding room
 confirm-requires c =
-    let at-else = c.before in
-    let parts = card_parts (card_of (start at-else.before)) (sound at-else) in
+    let parts = card_parts (card_of c.before.before.before.before.before.before.before) (sound c.before.before) in
     (omega arith, parts.rest)
 
 pub returns : goal.returns
 unfolding with_journal confirmed
 returns c =
-    let at-confirm = c.before.before.before in
-    let at-else = at-confirm.before.before in
-    let a = (start at-else.before).args in
+    let a = c.args in
     answers_number 0 (omega arith) c.numbered-2.ensures _ _
-    (ap (λ (j : List ℕ). gives (numbered 0) (lent a.table.now a.files.now j) []) at-confirm.confirm.ensures ∙ sym (confirm-done _ (sound at-else)))
+    (ap (λ (j : List ℕ). gives (numbered 0) (lent a.table.now a.files.now j) []) c.confirm.ensures ∙ sym (confirm-done _ (sound c.before.before.before.before.before.before)))

@@ -16,6 +16,7 @@ use Rattle.journal.proofs.Parts.{card_parts}
 use Rattle.engine.specs.Calls.{gives, numbered}
 use Rattle.engine.proofs.Answers.{answers_number, back_unsound, back_none, back_done}
 use Rattle.octets.proofs.Picks.{told}
+use Rattle.std.proofs.lemmas.Bool.{not_from_true}
 use Rattle.engine.proofs.take_back.Goals as goal
 use Rattle.engine.proofs.take_back.Lts as lts
 use Rattle.engine.proofs.take_back.Reads as reads
@@ -24,8 +25,8 @@ use Rattle.engine.proofs.take_back.Tie as tie
 abbrev Start : Type 0
 Start = lts.Start tie.the-claims reads.Pre reads.Post
 
-abbrev After-sound_card : Type 0
-After-sound_card = lts.After-sound_card tie.the-claims reads.Pre reads.Post
+abbrev Else1 : Type 0
+Else1 = lts.Else1 tie.the-claims reads.Pre reads.Post
 
 abbrev After-head_of : Type 0
 After-head_of = lts.After-head_of tie.the-claims reads.Pre reads.Post
@@ -36,24 +37,21 @@ Else2 = lts.Else2 tie.the-claims reads.Pre reads.Post
 abbrev card_of : Start → Card
 card_of s = lent s.args.table.now s.args.files.now s.args.journal.now
 
-abbrev start : After-sound_card → Start
-start k = let args = k.before.before.before in args.before.before.before.before
-
 -- past the first test the card is sound
-module _ (o : goal.Else-not-sound_card) where
+module _ (o : Else1) where
   abbrev card : Card
-  card = card_of (start o.before)
+  card = card_of o.before.before.before.before.before
 
   sound : sound_card card ≡ true
-  sound = told-true o.before.sound_card.ensures o.if1.left
+  sound = told-true o.sound_card.ensures (not_from_true _ o.if-not-sound_card.false)
 
 -- what the head that is read says of the scripts on trial
-scripts : (k : After-head_of) → k.head_of.result.scripts ≡ scripts_on_trial (card k.before.before).journal
-scripts k = own_scripts (card k.before.before).journal k.head_of.ensures.0
+scripts : (k : After-head_of) → k.head_of.result.scripts ≡ scripts_on_trial (card k.before).journal
+scripts k = own_scripts (card k.before).journal k.head_of.ensures.0
 
 -- past the second there is a script on trial
-some : (o : Else2) → scripts_on_trial (card o.before.before.before.before).journal ≡ 0 → ⊥
-some o none = o.if2.false (scripts o.before.before ∙ none)
+some : (o : Else2) → scripts_on_trial (card o.before.before.before).journal ≡ 0 → ⊥
+some o none = o.if-head_of-eq0.false (scripts o.before.before ∙ none)
 
 pub returns-then-not-sound_card : goal.returns-then-not-sound_card
 returns-then-not-sound_card c =
@@ -61,25 +59,19 @@ returns-then-not-sound_card c =
     (sym (back_unsound _ (told c.sound_card.ensures c.if-not-sound_card.true)))
 
 pub head_of-requires : goal.head_of-requires
-head_of-requires c = omega (arith, (card_parts (card c.before) (sound c.before)).size)
+head_of-requires c = omega (arith, (card_parts (card c) (sound c)).size)
 
 pub returns-then-head_of-eq0 : goal.returns-then-head_of-eq0
 returns-then-head_of-eq0 c =
-    let at-if2 = c.before in
-    let at_head_of = at-if2.before.before in
     answers_number 7 (omega arith) c.numbered-then-head_of-eq0.ensures _ _
-    (sym (back_none _ (sound at_head_of.before.before) (sym (scripts at_head_of) ∙ at-if2.if-head_of-eq0.true)))
+    (sym (back_none _ (sound c.before.before.before.before) (sym (scripts c.before.before.before) ∙ c.if-head_of-eq0.true)))
 
 pub take_back-requires : goal.take_back-requires
 take_back-requires c =
-    let at-if2 = c.before.before.before in
-    let trial = some at-if2 in
-    (sound at-if2.before.before.before.before, omega arith)
+    let trial = some c.before.before.before in
+    (sound c.before.before.before.before.before.before, omega arith)
 
 pub returns : goal.returns
 returns c =
-    let at_table = c.before.before.before.before.before.before in
-    let at-take-back = at_table.before in
-    let at-if2 = at-take-back.before.before.before.before in
     answers_number 0 (omega arith) c.numbered-2.ensures _ _
-    (ap (λ (k : Card). gives (numbered 0) k []) at-take-back.take_back.ensures ∙ sym (back_done _ (sound at-if2.before.before.before.before) (some at-if2)))
+    (ap (λ (k : Card). gives (numbered 0) k []) c.take_back.ensures ∙ sym (back_done _ (sound c.before.before.before.before.before.before.before.before.before.before.before.before.before.before.before) (some c.before.before.before.before.before.before.before.before.before.before.before.before)))

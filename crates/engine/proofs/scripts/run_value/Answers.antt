@@ -18,57 +18,31 @@ use Rattle.engine.proofs.scripts.run_value.Lts as lts
 use Rattle.engine.proofs.scripts.run_value.Reads as reads
 use Rattle.engine.proofs.scripts.run_value.Tie as tie
 
-abbrev After-mark : Type 0
-After-mark = lts.After-mark tie.the-claims reads.Pre reads.Post
-
 abbrev Start : Type 0
 Start = lts.Start tie.the-claims reads.Pre reads.Post
-
-abbrev After-run : Type 0
-After-run = lts.After-run tie.the-claims reads.Pre reads.Post
-
--- where it starts, from where the mark is set, and its card
-abbrev start : After-mark → Start
-start m =
-    let at-slices = m.before.before in
-    at-slices.before.before.before.before.before
 
 abbrev card_of : Start → Card
 card_of s = lent s.args.table.now s.args.files.now s.args.journal.now
 
--- where the mark is set, from where the room for the answer is made
-abbrev marked : goal.After-rapdus-1 → After-mark
-marked c = c.before.before.before
-
 pub run-g-requires : goal.run-g-requires
 run-g-requires c =
-    let at_mark = marked c.before.before.before in
-    let s = start at_mark in
     record {
-      ahead = s.pre.0;
-      inside = s.pre.1;
-      short = s.pre.2.script_short;
-      starts = begins (card_of s) at_mark.mark.ensures s.pre.2.starts;
+      ahead = c.requires.0;
+      inside = c.requires.1;
+      short = c.requires.2.script_short;
+      starts = begins (card_of c.before.before.before.before.before.before.before.before.before.before.before.before.before.before) c.mark.ensures c.requires.2.starts;
       room = search rules;
     }
 
--- where the items were run, from where the gathered bytes are lent
-abbrev ran : goal.After-rapdus-3-1 → After-run
-ran c =
-    let at-journal = c.before.before.before.before.before in
-    at-journal.before.before.before.before.before.before
-
 pub slice_bounds-put_answer-end : goal.slice_bounds-put_answer-end
 slice_bounds-put_answer-end c =
-    let r = (ran c).run in
+    let r = c.run-g in
     sym (length-take-le (r.result.kept + r.result.last) _ (omega (arith, r.ensures.1)))
 
 pub put_answer-length-requires : goal.put_answer-length-requires
 put_answer-length-requires c =
-    let at-run = ran c in
-    let s = start (marked at-run.before.before.before.before) in
-    let r = at-run.run in
-    let long = s.pre.2.response_long in (
+    let r = c.run-g in
+    let long = c.requires.2.response_long in (
       omega (arith, long, expanded_longest),
       rw length-take (omega (arith, r.ensures.1)),
       r.ensures.2,
@@ -76,12 +50,8 @@ put_answer-length-requires c =
 
 pub returns : goal.returns
 returns c =
-    let at-put-answer = c.before.before in
-    let at-run = ran at-put-answer.before in
-    let at_mark = marked at-run.before.before.before.before in
-    let s = start at_mark in
-    let r = at-run.run in
-    let p = at-put-answer.put_answer-length.ensures in (
-      value-gives _ _ _ _ _ r.result _ _ _ _ r.ensures.0 p.0 p.1 ∙ ap (run_value _ _ _ _) (with_mark_lem (card_of s) at_mark.mark.ensures),
+    let r = c.run-g in
+    let p = c.put_answer-length.ensures in (
+      value-gives _ _ _ _ _ r.result _ _ _ _ r.ensures.0 p.0 p.1 ∙ ap (run_value _ _ _ _) (with_mark_lem (card_of c.before.before.before.before.before.before.before.before.before.before.before.before.before.before.before.before.before.before.before.before.before.before.before.before.before.before.before.before.before) c.mark.ensures),
       expanded-small _ r.result.step.count _ (rw length-take (omega (arith, r.ensures.1))) r.ensures.2 _ p.1,
     )

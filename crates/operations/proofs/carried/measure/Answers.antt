@@ -44,7 +44,7 @@ is_carried-requires c =
 pub returns-then-not-is_carried : goal.returns-then-not-is_carried
 returns-then-not-is_carried c =
     let is = c.operation_at-o.ensures.0 in
-    let here = stops_here _ _ _ _ _ (omega arith) is c.is_carried_lem.ensures (not_from_false _ c.if-not-is_carried.true) in
+    let here = stops_here _ _ _ _ _ (omega arith) is c.is_carried.ensures (not_from_false _ c.if-not-is_carried.true) in
     record {
       bad = here ∙ c.loop-i.invariant.first;
       few = omega (arith, few (length c.args.list.now) c.requires);
@@ -65,7 +65,7 @@ loop-i-preserved c =
     let n = c.operations_in-n.result in
     let i = c.loop-i.i in
     let is = c.operation_at-o.ensures.0 in
-    let on = goes_on_lem _ _ _ _ _ (omega arith) is c.is_carried_lem.ensures (not_from_true _ c.if-not-is_carried.false) in
+    let on = goes_on_lem _ _ _ _ _ (omega arith) is c.is_carried.ensures (not_from_true _ c.if-not-is_carried.false) in
     let more = size-goes_on a.format a.list.now n i (omega arith) is c.written_size-written.ensures in
     let w = written-within a.format c.operation_at-o.result in
     record {

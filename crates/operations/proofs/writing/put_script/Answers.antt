@@ -18,14 +18,8 @@ use Rattle.operations.proofs.writing.put_script.Lts as lts
 use Rattle.operations.proofs.writing.put_script.Reads as reads
 use Rattle.operations.proofs.writing.put_script.Tie as tie
 
-abbrev After-put_length : Type 0
-After-put_length = lts.After-put_length tie.the-claims reads.Pre reads.Post
-
 abbrev Else1 : Type 0
 Else1 = lts.Else1 tie.the-claims reads.Pre reads.Post
-
-abbrev Start : Type 0
-Start = lts.Start tie.the-claims reads.Pre reads.Post
 
 pub put_all-requires : goal.put_all-requires
 put_all-requires c =
@@ -36,57 +30,38 @@ pub returns-then-format-eq0 : goal.returns-then-format-eq0
 returns-then-format-eq0 c =
     c.put_all.ensures ∙ ap (overwrite c.args.out.now 0) (compact-script _ _ _ c.if-format-eq0.true)
 
--- the points of the walk, back to the start
-abbrev from-length : After-put_length → Else1
-from-length c =
-    let at_fill_lem = c.before.before.before.before in
-    at_fill_lem.before.before
-
-abbrev from_else : Else1 → Start
-from_else c = c.before.before.before.before
-
 -- the template has room
 template_fits_lem : (k : Else1)
-    → let s = from_else k in
-    let n = s.args.size in
-    (1 + length (length_bytes n) + n ≤ length s.args.out.now) × (1 + length (length_bytes n) + n ≤ longest_script)
+    → let n = k.args.size in
+    (1 + length (length_bytes n) + n ≤ length k.args.out.now) × (1 + length (length_bytes n) + n ≤ longest_script)
 template_fits_lem k =
-    let s = from_else k in
-    let e = template-size s.args.format s.args.size k.if1.false in
-    (omega (arith, s.pre.room), omega (arith, s.pre.short))
+    let e = template-size k.args.format k.args.size k.if-format-eq0.false in
+    (omega (arith, k.requires.room), omega (arith, k.requires.short))
 
 pub fill-requires : goal.fill-requires
 fill-requires c =
-    omega (arith, template_fits_lem c.before)
+    omega (arith, template_fits_lem c.before.before)
 
 pub put_length-from-requires : goal.put_length-from-requires
 put_length-from-requires c =
-    let at-else1 = c.before.before.before.before.before in
-    let s = from_else at-else1 in
-    let t = template_fits_lem at-else1 in
-    let some = size-some s.args.format s.args.list.now s.pre.list in
-    let one = length_some s.args.size in
+    let t = template_fits_lem c.before.before.before.before.before.before in
+    let some = size-some c.args.format c.args.list.now c.requires.list in
+    let one = length_some c.args.size in
     (omega arith, omega arith)
 
 pub put_all-requires-2 : goal.put_all-requires-2
 put_all-requires-2 c =
-    let at-put-length = c.before.before.before in
-    let at-else1 = from-length at-put-length in
-    let p = (from_else at-else1).pre in
-    (p.list, p.carried, omega (arith, p.sized, at-put-length.put_length-from.ensures.1, template_fits_lem at-else1))
+    let p = c.requires in
+    (p.list, p.carried, omega (arith, p.sized, c.put_length-from.ensures.1, template_fits_lem c.before.before.before.before.before.before.before.before.before.before))
 
 pub returns : goal.returns
 returns c =
-    let at-put-all = c.before.before in
-    let at-put-length = at-put-all.before.before.before.before in
-    let at-else1 = from-length at-put-length in
-    let s = from_else at-else1 in
-    let os = operations_of s.args.list.now in
-    let v = all_written s.args.format s.args.«data».now os in
-    let l = all-length s.args.format 0 s.args.«data».now os s.pre.carried in
-    let is = s.pre.sized in
-    let room = template_fits_lem at-else1 in
-    let put = at-put-length.put_length-from.ensures in
-    tagged 0xAA s.args.size 0 s.args.out.now v at-put-length.fill.ensures put.0 put.1 at-put-all.put_all-2.ensures (omega arith)
-    ∙ ap (overwrite s.args.out.now 0)
-    (ap (λ (n : ℕ). 0xAA ∷ (length_bytes n ++ v)) is ∙ template-script _ _ _ at-else1.if1.left s.pre.carried)
+    let os = operations_of c.args.list.now in
+    let v = all_written c.args.format c.args.«data».now os in
+    let l = all-length c.args.format 0 c.args.«data».now os c.requires.carried in
+    let is = c.requires.sized in
+    let room = template_fits_lem c.before.before.before.before.before.before.before.before.before.before.before.before.before in
+    let put = c.put_length-from.ensures in
+    tagged 0xAA c.args.size 0 c.args.out.now v c.fill.ensures put.0 put.1 c.put_all-2.ensures (omega arith)
+    ∙ ap (overwrite c.args.out.now 0)
+    (ap (λ (n : ℕ). 0xAA ∷ (length_bytes n ++ v)) is ∙ template-script _ _ _ c.if-format-eq0.false c.requires.carried)
