@@ -46,7 +46,7 @@ made-formed : (k : ℕ) (c : Card) (m : List ℕ) (hs : List Call) → AllInByte
 unfolding in_one_memory
 made-formed k c m [] small e = tt
 made-formed k c m (h ∷ hs) small e =
-    (lent-formed m h k small.0 e, made-formed k _ (memory_after m h c) hs small.1 (memory-length m h c small.0 ∙ e))
+    (lent-formed m h k small.0 e, made-formed k (result_of (with_memory m h) c).card (memory_after m h c) hs small.1 (memory-length m h c small.0 ∙ e))
 
 formed-bytes : (k : ℕ) (h : Call) → Formed k h → InBytes h
 formed-bytes k (running a) formed = formed.0
@@ -83,7 +83,7 @@ module _ (k : ℕ) where
   kept_from : (c : Card) (ps : List Past) (hs : List Call) → AllFormed k hs → Kept ps → Kept (remains_from c ps hs)
   unfolding remains_from
   kept_from c ps [] formed all = all
-  kept_from c ps (h ∷ hs) formed all = kept_from _ _ hs formed.1 (kept-after h (result_of h c) ps formed.0 all)
+  kept_from c ps (h ∷ hs) formed all = kept_from (result_of h c).card (after_call h (result_of h c) ps) hs formed.1 (kept-after h (result_of h c) ps formed.0 all)
 
   kept-last : (hs : List Call) (h : Call) → AllFormed k hs → Formed k h → AllFormed k (hs ++ (h ∷ []))
   kept-last [] h all one = (one, tt)
@@ -129,15 +129,15 @@ again c n [] formed = (refl, refl)
 again c n (h ∷ hs) formed =
     let one = alone n h c formed.0 in
     let long = memory-length n h c (formed-bytes (length n) h formed.0) in
-    alike_more c (with_memory n h) h _ hs one.0 one.1 (again _ (memory_after n h c) hs (subst (λ (k : ℕ). AllFormed k hs) (sym long) formed.1))
+    alike_more c (with_memory n h) h _ hs one.0 one.1 (again (result_of (with_memory n h) c).card (memory_after n h c) hs (subst (λ (k : ℕ). AllFormed k hs) (sym long) formed.1))
 
 -- what a call was lent before does not count
 made-afresh : (c : Card) (n m : List ℕ) (hs : List Call) → in_one_memory c n (map (with_memory m) hs) ≡ in_one_memory c n hs
 unfolding in_one_memory with_memory memory_after
 made-afresh c n m [] = refl
-made-afresh c n m (running a ∷ hs) = ap (λ (l : List Call). with_memory n (running a) ∷ l) (made-afresh _ _ m hs)
-made-afresh c n m (taking_back ∷ hs) = ap (λ (l : List Call). taking_back ∷ l) (made-afresh _ n m hs)
-made-afresh c n m (confirming ∷ hs) = ap (λ (l : List Call). confirming ∷ l) (made-afresh _ n m hs)
+made-afresh c n m (running a ∷ hs) = ap (λ (l : List Call). with_memory n (running a) ∷ l) (made-afresh (result_of (with_memory n (running a)) c).card (memory_after n (running a) c) m hs)
+made-afresh c n m (taking_back ∷ hs) = ap (λ (l : List Call). taking_back ∷ l) (made-afresh (result_of taking_back c).card n m hs)
+made-afresh c n m (confirming ∷ hs) = ap (λ (l : List Call). confirming ∷ l) (made-afresh (result_of confirming c).card n m hs)
 
 afresh-formed : (m : List ℕ) (hs : List Call) → AllInBytes hs → AllFormed (length m) (map (with_memory m) hs)
 afresh-formed m [] small = tt

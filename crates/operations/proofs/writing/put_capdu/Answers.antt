@@ -57,7 +57,7 @@ fill-requires-then-has_le c = omega (arith, le_fits c.before.before)
 
 pub overflow_add-result : goal.overflow_add-result
 overflow_add-result c =
-    omega (arith, le_fits c.before.before.before.before.before, c.good.1.1.0.0)
+    omega (arith, le_fits c.before.before.before.before.before)
 
 pub returns-then-has_le : goal.returns-then-has_le
 returns-then-has_le c =

@@ -31,7 +31,7 @@ copy-requires c =
 
 -- the header is written
 header : (k : After-copy)
-    → k.copy.new.0 ≡ overwrite k.args.out.now k.args.at (header_of k.args.o)
+    → k.copy.new.m ≡ overwrite k.args.out.now k.args.at (header_of k.args.o)
 header k =
     let i = k.instruction_of-i.ensures.0 in
     let is = header_is k.args.o k.class_of-class.ensures i k.p1_of.ensures k.p2_of.ensures in
