@@ -17,9 +17,6 @@ use Rattle.desk.proofs.asking.kind_of.Tie as tie
 abbrev Else6 : Type 0
 Else6 = lts.Else6 tie.the-claims reads.Pre reads.Post
 
-abbrev Start : Type 0
-Start = lts.Start tie.the-claims reads.Pre reads.Post
-
 -- the kind that one of the first six names says, and `rest` where none of them stands
 abbrev of_six : List ℕ → ℕ → ℕ
 of_six line rest =
@@ -29,25 +26,14 @@ of_six line rest =
     (pick (starts_with line (ascii "update-record=")) update_record
     (pick (starts_with line (ascii "read-record=")) read_record (pick (starts_with line (ascii "increase=")) increase rest)))))
 
-abbrev start : Else6 → Start
-start k =
-    let at-3 = k.before.before.before.before.before.before.before.before.before in
-    let at_1 = at-3.before.before.before.before.before.before in
-    at_1.before.before.before.before
-
-six_missing : (k : Else6) {r rest : ℕ} → r ≡ rest → r ≡ of_six (start k).args.line.now rest
+six_missing : (k : Else6) {r rest : ℕ} → r ≡ rest → r ≡ of_six k.args.line.now rest
 unfolding ascii
 six_missing k e =
-    let at_5 = k.before.before.before in
-    let at-4 = at_5.before.before.before in
-    let at-3 = at-4.before.before.before in
-    let at-2 = at-3.before.before.before in
-    let at_1 = at-2.before.before.before in
-    no _ _ (told at_1.before.stands.ensures at_1.if1.false)
-    (no _ _ (told at-2.before.stands2.ensures at-2.if2.false)
-    (no _ _ (told at-3.before.stands3.ensures at-3.if3.false)
-    (no _ _ (told at-4.before.stands4.ensures at-4.if4.false)
-    (no _ _ (told at_5.before.stands5.ensures at_5.if5.false) (no _ _ (told k.before.stands6.ensures k.if6.false) e)))))
+    no _ _ (told k.stands.ensures k.if-stands.false)
+    (no _ _ (told k.stands-2.ensures k.if-stands-2.false)
+    (no _ _ (told k.stands-3.ensures k.if-stands-3.false)
+    (no _ _ (told k.stands-4.ensures k.if-stands-4.false)
+    (no _ _ (told k.stands-5.ensures k.if-stands-5.false) (no _ _ (told k.stands-6.ensures k.if-stands-6.false) e)))))
 
 pub returns-then-stands : goal.returns-then-stands
 unfolding kind_of ascii
@@ -75,8 +61,8 @@ returns-then-stands-6 c = search choices depth 40 fits 20000
 
 pub returns-then-stands-7 : goal.returns-then-stands-7
 unfolding kind_of ascii
-returns-then-stands-7 c = six_missing c.before.before.before (yes _ _ (told c.stands-7.ensures c.if-stands-7.true) refl)
+returns-then-stands-7 c = six_missing c.before.before.before.before.before (yes _ _ (told c.stands-7.ensures c.if-stands-7.true) refl)
 
 pub returns : goal.returns
 unfolding kind_of ascii
-returns c = six_missing c.before.before.before (no _ _ (told c.stands-7.ensures c.if-stands-7.false) refl)
+returns c = six_missing c.before.before.before.before.before (no _ _ (told c.stands-7.ensures c.if-stands-7.false) refl)

@@ -14,8 +14,7 @@ returns-in_default c =
 
 pub with_count-requires : goal.with_count-requires
 with_count-requires c =
-    let at-mode = c.before.before.before in
-    (which_lies _ _ at-mode.mode.given.1 at-mode.before.before.which-of.ensures.1).inside
+    (which_lies _ _ c.in-At.is c.which_of.ensures.1).inside
 
 pub returns-then-is_read : goal.returns-then-is_read
 returns-then-is_read c =
@@ -27,8 +26,7 @@ returns-then-is_read c =
 
 pub with_bytes-requires : goal.with_bytes-requires
 with_bytes-requires c =
-    let at-mode = c.before.before.before in
-    (which_lies _ _ at-mode.mode.given.1 at-mode.before.before.which-of.ensures.1).inside
+    (which_lies _ _ c.in-At.is c.which_of.ensures.1).inside
 
 pub returns : goal.returns
 returns c =

@@ -19,28 +19,27 @@ returns-in_default c =
 
 pub list_from-listing-requires : goal.list_from-listing-requires
 list_from-listing-requires c =
-    ((field_lies _ _ _ _ c.format.given.1 c.number_at.ensures.1).1, c.requires.0, omega arith, omega arith)
+    ((field_lies _ _ _ _ c.in-Value.is c.number_at.ensures.1).1, c.requires.0, omega arith, omega arith)
 
 pub overflow_cast-format : goal.overflow_cast-format
 overflow_cast-format c =
-    let at-format = c.before.before.before.before.before.before.before.before.before in
-    omega (arith, (field_lies _ _ _ _ at-format.format.given.1 at-format.before.before.number_at.ensures.1).0)
+    omega (arith, (field_lies _ _ _ _ c.in-Value.is c.number_at.ensures.1).0)
 
 pub slice_bounds-rows-end : goal.slice_bounds-rows-end
 slice_bounds-rows-end c =
-    omega (arith, (listing_lies _ _ c.listing.given.1 c.list-from.ensures.1).0)
+    omega (arith, (listing_lies _ _ c.in-Listed.is c.list_from-listing.ensures.1).0)
 
 pub slice_bounds-put_built-end : goal.slice_bounds-put_built-end
 slice_bounds-put_built-end c =
-    sym (length-take-le _ _ (omega (arith, (listing_lies _ _ c.listing.given.1 c.list-from.ensures.1).0)))
+    sym (length-take-le _ _ (omega (arith, (listing_lies _ _ c.in-Listed.is c.list_from-listing.ensures.1).0)))
 
 pub slice_bounds-data-end : goal.slice_bounds-data-end
 slice_bounds-data-end c =
-    omega (arith, (listing_lies _ _ c.listing.given.1 c.list-from.ensures.1).1)
+    omega (arith, (listing_lies _ _ c.in-Listed.is c.list_from-listing.ensures.1).1)
 
 pub slice_bounds-put_built-end-in-Listed : goal.slice_bounds-put_built-end-in-Listed
 slice_bounds-put_built-end-in-Listed c =
-    sym (length-take-le _ _ (omega (arith, (listing_lies _ _ c.listing.given.1 c.list-from.ensures.1).1)))
+    sym (length-take-le _ _ (omega (arith, (listing_lies _ _ c.in-Listed.is c.list_from-listing.ensures.1).1)))
 
 pub returns-in-Listed : goal.returns-in-Listed
 unfolding listed_lines ascii

@@ -31,13 +31,11 @@ slice_bounds-is_hex-count c =
 
 pub slice_bounds-is_hex-start : goal.slice_bounds-is_hex-start
 slice_bounds-is_hex-start c =
-    let at_from = c.before.before in
-    (value_lies _ _ _ at_from.from.given.1 at_from.before.before.value-at.ensures.1).0
+    (value_lies _ _ _ c.in-At.is c.value_at.ensures.1).0
 
 pub slice_bounds-is_hex-end : goal.slice_bounds-is_hex-end
 slice_bounds-is_hex-end c =
-    let at_from = c.before.before in
-    (value_lies _ _ _ at_from.from.given.1 at_from.before.before.value-at.ensures.1).1
+    (value_lies _ _ _ c.in-At.is c.value_at.ensures.1).1
 
 pub returns-then-not-is_hex : goal.returns-then-not-is_hex
 unfolding DigitsFit ascii pick

@@ -46,18 +46,15 @@ returns-then-to-text c =
 
 pub slice_bounds-decode-count : goal.slice_bounds-decode-count
 slice_bounds-decode-count c =
-    let at_from = c.before.before in
-    (digits_lie _ _ _ at_from.from.given.1 at_from.before.before.digits-at.ensures.1).ordered
+    (digits_lie _ _ _ c.in-At.is c.digits_at.ensures.1).ordered
 
 pub slice_bounds-decode-start : goal.slice_bounds-decode-start
 slice_bounds-decode-start c =
-    let at_from = c.before.before in
-    (digits_lie _ _ _ at_from.from.given.1 at_from.before.before.digits-at.ensures.1).ordered
+    (digits_lie _ _ _ c.in-At.is c.digits_at.ensures.1).ordered
 
 pub slice_bounds-decode-end : goal.slice_bounds-decode-end
 slice_bounds-decode-end c =
-    let at_from = c.before.before in
-    (digits_lie _ _ _ at_from.from.given.1 at_from.before.before.digits-at.ensures.1).inside
+    (digits_lie _ _ _ c.in-At.is c.digits_at.ensures.1).inside
 
 pub decode-n-requires : goal.decode-n-requires
 decode-n-requires c =

@@ -14,13 +14,11 @@ show_next-s-requires c =
 
 pub loop-s-smaller : goal.loop-s-smaller
 loop-s-smaller c =
-    let bytes = c.shared_slice_known-1.given in
-    less c.loop-s.invariant (λ i. (bytes i).fits) c.loop-s-test.true c.show_next-s.ensures.1
+    less c.loop-s.invariant (λ i. (c.shared_slice_known-1.given i).fits) c.loop-s-test.true c.show_next-s.ensures.1
 
 pub loop-s-preserved : goal.loop-s-preserved
 loop-s-preserved c =
-    let bytes = c.shared_slice_known-1.given in
-    shows c.loop-s.invariant (λ i. (bytes i).fits) c.loop-s-test.true c.show_next-s.ensures.1 c.show_next-s.ensures.0
+    shows c.loop-s.invariant (λ i. (c.shared_slice_known-1.given i).fits) c.loop-s-test.true c.show_next-s.ensures.1 c.show_next-s.ensures.0
 
 pub shape_of-out : goal.shape_of-out
 shape_of-out c = kept c.loop-s.invariant
