@@ -6,6 +6,8 @@ mod line;
 use journal::JOURNAL_LENGTH;
 use lines::values::value_end;
 use lines::worked::LENT_RESPONSE;
+use std::io;
+use streams::read_full;
 
 // The bytes that are read at most.
 const MOST_READ: usize = 32768;
@@ -14,31 +16,32 @@ const MOST_READ: usize = 32768;
 const MOST_IN_LINE: usize = 144 + 2 * (LENT_RESPONSE + JOURNAL_LENGTH);
 
 // Prints what there is of a line; nothing where it is empty, or a note, which begins with #.
-fn show(line: &[u8]) {
+fn show(rt: &impl Print, line: &[u8]) -> io::Result<()> {
     if line.len() == 0 {
-        return;
+        return Ok(());
     }
     if line[0] == b'#' {
-        return;
+        return Ok(());
     }
     let mut out = [0u8; MOST_IN_LINE];
     let n = line::put_line(&mut out, line);
-    io::write_all(libc::STDOUT_FILENO, &out[..n]);
+    rt.write_all(&out[..n])
 }
 
 // Prints what there is of each line.
-fn show_lines(input: &[u8]) {
+fn show_lines(rt: &impl Print, input: &[u8]) -> io::Result<()> {
     let mut at: usize = 0;
     while at < input.len() {
         let end = value_end(input, at, b'\n');
-        show(&input[at..end]);
+        show(rt, &input[at..end])?;
         at = end + 1;
     }
+    Ok(())
 }
 
 // Reads standard input, and prints what there is of each line.
-fn main() {
+fn main(rt: HostRuntime) -> io::Result<()> {
     let mut input = [0u8; MOST_READ];
-    let n = io::read_full(libc::STDIN_FILENO, &mut input);
-    show_lines(&input[..n]);
+    let n = read_full(&mut rt.stdin(), &mut input)?;
+    show_lines(&rt, &input[..n])
 }

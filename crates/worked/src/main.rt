@@ -10,6 +10,8 @@ ghost use Rattle.worked.specs.Printed.{most_printed, printed};
 
 use input::Input;
 use lines::worked::LENT_RESPONSE;
+use std::io;
+use streams::read_full;
 
 // The bytes that are read: one more than the longest input of the right shape has.
 const MOST_READ: usize = 16428;
@@ -33,10 +35,10 @@ fn print(input: &[u8], out: &mut [u8]) -> usize
 }
 
 // Reads standard input, and writes what is printed for it.
-fn main() {
+fn main(rt: HostRuntime) -> io::Result<()> {
     let mut input = [0u8; MOST_READ];
-    let n = io::read_full(libc::STDIN_FILENO, &mut input);
+    let n = read_full(&mut rt.stdin(), &mut input)?;
     let mut out = [0u8; MOST_PRINTED];
     let k = print(&input[..n], &mut out);
-    io::write_all(libc::STDOUT_FILENO, &out[..k]);
+    rt.write_all(&out[..k])
 }
