@@ -13,4 +13,4 @@ cd "$room"
 export PKG_CONFIG_LIBDIR=$room/usr/local/rfm/lib/pkgconfig PKG_CONFIG_SYSROOT_DIR=$room
 read -ra words <<< "$(pkg-config --cflags --libs rfm)"
 "${compiler[0]}" -static -o fleet fleet.c "${words[@]}"
-run ./fleet | diff "$root"/examples/fleet.expected -
+./fleet | diff "$root"/examples/fleet.expected -

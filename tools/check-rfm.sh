@@ -3,7 +3,7 @@
 # own, and for the desk the ones that follow from its rules by hand.
 set -eu
 . "$(dirname "${BASH_SOURCE[0]}")/machine.sh"
-for program in worked build read; do fresh "target/bin/$program" check "$program"; done
+for program in worked build read; do make_program "$program"; done
 room=$(mktemp -d)
 trap 'rm -rf "$room"' EXIT
 wrong=0
