@@ -27,19 +27,20 @@ install_packages() {
 # Sees that a command is there, or installs its packages: need COMMAND PACKAGE..
 need() { command -v "$1" > /dev/null || install_packages "${@:2}"; }
 
-# Sees that a C compiler and the C library's headers are there, or installs their packages: need_compiler COMMAND
-# PACKAGE..
+# Sees that a C compiler and the C library's headers are there, or installs them: need_compiler COMMAND PACKAGE..
 need_compiler() { "$1" -E -include stdio.h -x c /dev/null > /dev/null 2>&1 || install_packages "${@:2}"; }
 
 # Prints the digest of all that rt makes files from: the kit and the crates.
 digest() {
-    cd "$root" && { rt version && find crates crates.txt -name out -prune -o -type f -print0 | LC_ALL=C sort -z | xargs -0 sha256sum; } |
-        sha256sum
+    cd "$root" && {
+        rt version
+        find crates crates.txt -name out -prune -o -type f -print0 | LC_ALL=C sort -z | xargs -0 sha256sum
+    } | sha256sum
 }
 
-# Has rt make an archive or a program, unless it was made from the crates as they are: fresh FILE NAME COMMAND FILE is
-# below target/, and its name is that of what rt makes in crates/NAME/out/, which `rt ci` does not keep. FILE.from has
-# the digest of what FILE was made from. Each crate is named on standard error when it is proved.
+# Has rt make an archive or a program, unless it was made from the crates as they are: fresh FILE NAME COMMAND
+# FILE is below target/, and its name is that of what rt makes in crates/NAME/out/, which `rt ci` does not keep.
+# FILE.from has the digest of what FILE was made from. Each crate is named on standard error when it is proved.
 fresh() {
     local file=$root/$1 crate=$root/crates/$2 from said
     from=$(digest) || return 1
@@ -48,7 +49,7 @@ fresh() {
         say "$1 is to be made, and $(id -un) may not write to target/ and crates/: have its owner run this once, or make a clone of your own"
         return 1
     fi
-    say "proving the crates of $1 that are not proved yet: for all of them half an hour on two cores, once"
+    say "proving the crates of $1 that are not proved yet: for all of them that takes minutes, once"
     rm -f "$file" "$file.from"
     said=$(
         set -o pipefail
