@@ -1,5 +1,6 @@
 // What the archives for C share: the answer of a call in one number.
 #![tactic(auto)]
+
 ghost use Rattle.std.specs.Prelude.{◌≡◌};
 ghost use Rattle.boundary.specs.Packed as spec;
 

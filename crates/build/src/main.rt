@@ -1,5 +1,6 @@
 // The program that builds a script: it reads a format and a list of operations, a line for each, and prints the script, or why there is none.
 #![tactic(auto)]
+
 use desk::builds::{MOST_PRINTED, MOST_READ};
 use std::io;
 use streams::read_full;

@@ -1,5 +1,6 @@
 // The program of the cases: it runs the case of each line that it reads on the worked card, and prints its line.
 #![tactic(auto)]
+
 mod input;
 mod line;
 

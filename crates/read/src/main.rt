@@ -1,5 +1,6 @@
 // The program that reads an answer: it reads a format and an answer, and prints the count and each result, or where the answer is damaged.
 #![tactic(auto)]
+
 use desk::reads::{MOST_PRINTED, MOST_READ};
 use std::io;
 use streams::read_full;

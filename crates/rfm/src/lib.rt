@@ -1,5 +1,6 @@
 // The C boundary: the three calls over numbers and slices alone, as include/rfm.h declares them.
 #![tactic(auto)]
+
 ghost use Rattle.std.specs.Prelude.{◌≡◌, []};
 ghost use Rattle.card.specs.Row.{lent};
 ghost use Rattle.engine.specs.Calls as calls;

@@ -1,5 +1,6 @@
 // The C boundary of the desk: the builder and the reader over numbers and slices alone, as include/rfm_desk.h declares them.
 #![tactic(auto)]
+
 ghost use Rattle.std.specs.Prelude.{◌≡◌, ◌<◌, ◌^◌};
 ghost use Rattle.operations.specs.Builds.{build};
 ghost use Rattle.rfm_desk.specs.Packed as spec;

@@ -1,5 +1,6 @@
 // What the programs share of reading: an input up to the room that there is for it.
 #![tactic(auto)]
+
 ghost use Rattle.std.specs.Prelude.{◌≤◌, IfOk, length};
 
 use std::io::{Read, Result};

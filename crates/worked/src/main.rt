@@ -1,5 +1,6 @@
 // The program of the worked card: it reads four lines, runs one script and prints five lines.
 #![tactic(auto)]
+
 mod input;
 mod output;
 mod runs;

@@ -51,13 +51,12 @@ overflow_cast-result-2 c =
 
 pub returns : goal.returns
 unfolding case_behind then then_digits AskedFits ascii
-returns c =
-    (
-      behind-label _ c.value_end-label.ensures.0 c.if-label-gt-LONGEST_LABEL.false (rw (sym c.number_at.ensures.0 ∙ c.in-Value.is, sym c.number_at-2.ensures.0 ∙ c.in-Value-number_at.is, sym c.number_at-3.ensures.0 ∙ c.in-Value-number_at-2.is, sym c.digits_at.ensures.0 ∙ c.in-At.is, sym c.digits_at-2.ensures.0 ∙ c.in-At-digits_at.is)),
-      record {
-        label = c.if-label-gt-LONGEST_LABEL.false;
-        labelled = c.value_end-label.ensures.2;
-        journal = digits_fit _ _ _ _ c.in-At.is c.digits_at.ensures.1;
-        script = digits_fit _ _ _ _ c.in-At-digits_at.is c.digits_at-2.ensures.1;
-      },
-    )
+returns c = (
+  behind-label _ c.value_end-label.ensures.0 c.if-label-gt-LONGEST_LABEL.false (rw (sym c.number_at.ensures.0 ∙ c.in-Value.is, sym c.number_at-2.ensures.0 ∙ c.in-Value-number_at.is, sym c.number_at-3.ensures.0 ∙ c.in-Value-number_at-2.is, sym c.digits_at.ensures.0 ∙ c.in-At.is, sym c.digits_at-2.ensures.0 ∙ c.in-At-digits_at.is)),
+  record {
+    label = c.if-label-gt-LONGEST_LABEL.false;
+    labelled = c.value_end-label.ensures.2;
+    journal = digits_fit _ _ _ _ c.in-At.is c.digits_at.ensures.1;
+    script = digits_fit _ _ _ _ c.in-At-digits_at.is c.digits_at-2.ensures.1;
+  },
+)
