@@ -4,7 +4,7 @@ use lib.ListN.{length}
 use Rattle.cases.proofs.show_lines.Given as goal
 
 abbrev pub invariant-loop-at : goal.invariant-loop-at
-invariant-loop-at l = l.at ≤ length l.input + 1
+invariant-loop-at g l = l.at ≤ length l.input + 1
 
 abbrev pub decreases-loop-at : goal.decreases-loop-at
-decreases-loop-at l = length l.input + 1 - l.at
+decreases-loop-at g l = length l.input + 1 - l.at

@@ -28,8 +28,8 @@ slice_bounds-put_labelled-end-3 c = sym (length-take-le _ _ c.in_use-k.ensures.1
 pub put_labelled-requires : goal.put_labelled-requires
 put_labelled-requires c =
     let h = answer-fits _ _ _ c.run-answer.ensures.0 in
-    let l = length-take-le c.run-answer.result.length c.run-answer.new.1.1.1.1.0 h in
-    let k = length-take-le c.in_use-k.result c.run-answer.new.1.1.1.1.1.1.1.0 c.in_use-k.ensures.1 in
+    let l = length-take-le c.run-answer.result.length c.run-answer.new.response h in
+    let k = length-take-le c.in_use-k.result c.run-answer.new.journal c.in_use-k.ensures.1 in
     record { room = omega arith; label_short = omega arith; response_short = omega arith; journal_short = omega arith }
 
 pub returns : goal.returns

@@ -14,10 +14,6 @@ use Rattle.lines.proofs.Written.{put, behind}
 use Rattle.worked.specs.Printed.{five_lines, most_printed}
 use Rattle.worked.proofs.output.put_lines.Goals as goal
 
-pub put_number-requires : goal.put_number-requires
-put_number-requires c =
-    omega (arith, c.put_number-second.ensures.2, c.put_number-third.ensures.2, c.put_bytes-fourth.ensures.2, c.put_number-fifth.ensures.2, c.requires, c.put_number-second.kept.0, c.put_number-third.kept.0, c.put_bytes-fourth.kept.0, c.put_number-fifth.auto.0)
-
 pub returns : goal.returns
 unfolding five_lines ascii
 returns c =

@@ -20,7 +20,7 @@ pub put_lines-requires : goal.put_lines-requires
 put_lines-requires c =
     let n = c.run-answer.result.length in
     let h = answer-fits _ _ _ c.run-answer.ensures.0 in
-    let l = length-take-le n c.run-answer.new.1.1.1.1.0 h in
+    let l = length-take-le n c.run-answer.new.response h in
     (omega arith, omega arith, omega arith)
 
 pub returns : goal.returns
