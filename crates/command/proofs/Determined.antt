@@ -1,7 +1,7 @@
 -- Each contract of a public function of this crate allows one result: whatever the arguments and the first content of the memory that
--- `put_data` writes, two results that it allows are the same, the answer and every byte of that memory. The contracts of the two functions
--- that are walked by hand are read here, as the other functions' are read beside their code: what a reading tells is what whoever has the
--- `ensures` learns. Assumes nothing.
+-- `put_data` writes, two results that it allows are the same, the answer and every byte of that memory. The contracts of `at_front` and
+-- `moved_on` are read here, as the other functions' are read beside their code: what a reading tells is what whoever has the `ensures`
+-- learns. Assumes nothing.
 use mathlib.Core.Path.{refl}
 use base.Logic.{emp}
 use contract.Lifetimes.{Lfts}

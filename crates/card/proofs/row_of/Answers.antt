@@ -1,7 +1,6 @@
 -- `card::row_of` meets its contract: field by field what `num_at` and `wide` ensure.
--- Each of the twelve fields is the result of one call. The points of the walk are these calls, named from the last one back to the
--- first (`at-num-at4`, .., `at-num-at`): the first half of what a call ensures is the field's value, the second half that it is a
--- byte or a 16-bit number. What the calls and reads ask for are bounds in a slice of 16 bytes, which the search finds.
+-- Each of the twelve fields is the result of one call: the first half of what a call ensures is the field's value, the second half
+-- that it is a byte or a 16-bit number. What the calls and reads ask for are bounds in a slice of 16 bytes, which the search finds.
 -- Assumes nothing.
 use Rattle.card.specs.Row.{row}
 use Rattle.card.proofs.row_of.Goals as goal

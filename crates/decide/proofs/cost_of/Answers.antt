@@ -1,8 +1,7 @@
 -- `decide::cost_of` meets its contract: the cost of each change.
 -- The match tells which change was given. Each arm returns 0 or the sum of what `entry_bytes` gives for one or two entries, which
 -- is `cost_of` of that change, and `known_cost` carries this over to the writes of the change as it was given. The data are below
--- 256 bytes and a sum's record is at most 255 (`CostOfAsks`), so no sum is too large for a machine word. The points of the walk are
--- where the match tells, and the first of two calls. Assumes nothing.
+-- 256 bytes and a sum's record is at most 255 (`CostOfAsks`), so no sum is too large for a machine word. Assumes nothing.
 use mathlib.Core.Path.{refl}
 use Prim.Native.Nat.{◌+◌}
 use native.Mathlib.Omega.{arith}

@@ -54,7 +54,7 @@ card_of s = lent s.args.table.now s.args.files.now s.args.journal.now
 abbrev whole : Start → Situation
 whole s = situation s.args.format s.args.domain s.args.c s.args.«data».now s.args.s (card_of s)
 
--- the points of the walk, each from the one before: all memories are known, the journal is read, an instruction is not the one asked for
+-- points of the walk, each from a later one: its start, and where all memories are known
 abbrev start : After-slice_known → Start
 start c = c.before.before.before.before.before
 

@@ -1,6 +1,6 @@
 -- `command::checks::check_word` meets its contract: each arm has the word of its check.
--- The 22 arms are argued alike: where the match takes an arm it tells which check was given (`enum_told` to `enum-told22`, the
--- points of the walk), and the definition gives that check the word which the arm returns. Assumes nothing.
+-- The 22 arms are argued alike: where the match takes an arm it tells which check was given, and the definition gives that check the
+-- word which the arm returns. Assumes nothing.
 use mathlib.Core.Path.{sym, ap}
 use Rattle.command.specs.Checks.{check_word}
 use Rattle.command.proofs.checks.check_word.Goals as goal

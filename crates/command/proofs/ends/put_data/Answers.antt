@@ -1,8 +1,7 @@
 -- `command::ends::put_data` meets its contract: in each arm, what the outcome's fitting tells of it, and then its bytes.
 -- An arm knows which outcome was given, so what is asked of the given outcome holds of the arm's own (`fits`, `left`), and the
 -- arm's own bytes are those asked for (`written`). The two arms with data copy what `from_files` and `from_waiting` lend: a part of
--- the file memory, or the first waiting bytes. The two without data write nothing, which is a write of no bytes. The points of the
--- walk are the start, the match (`at-o`, `at-o2`), the call that lends and the copy. Assumes nothing.
+-- the file memory, or the first waiting bytes. The two without data write nothing, which is a write of no bytes. Assumes nothing.
 use mathlib.Core.Path.{◌≡◌, sym, ap, ◌∙◌}
 use mathlib.Core.List.{List}
 use Prim.Native.Nat.{◌+◌, ◌≤◌}

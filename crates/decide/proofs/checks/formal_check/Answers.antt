@@ -1,6 +1,6 @@
 -- `decide::checks::formal_check` meets its contract: at each return the checks before are passed, and the one that fails is the first.
--- Each check has three parts: where the walk stands when it is tested (`from-..`, from the one before), what it finds in every situation
--- that the contract speaks of, and that it is passed. Assumes nothing.
+-- Each check has two parts: what it finds in every situation that the contract speaks of, and, from the one before, that it is passed.
+-- Assumes nothing.
 use mathlib.Core.Path.{ap}
 use mathlib.Core.Bool.{not, ◌&&◌}
 use Prim.Native.Nat.{ℕ}

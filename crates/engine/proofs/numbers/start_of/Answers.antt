@@ -53,7 +53,7 @@ After-arguments_fit = lts.After-arguments_fit tie.the-claims reads.Pre reads.Pos
 abbrev After-least_response : Type 0
 After-least_response = lts.After-least_response tie.the-claims reads.Pre reads.Post
 
--- where it starts, from past the first test, and past each test the one before it
+-- where it starts, from the first test, and past the second test the first
 abbrev start : After-sound_card → Start
 start c = c.before.before.before.before.before
 

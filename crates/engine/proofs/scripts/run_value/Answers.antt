@@ -2,8 +2,7 @@
 -- The contract asks for a card that a script can start from once it has the mark, and the mark that is set makes the lent memories
 -- that card (`begins`), so the items may be run. The run promises that the gathered bytes fit the buffer of 1,004, and a count of at
 -- most 1,024: with the response memory that number 4 sees to that is what `put_answer` asks. What the run and the answer promise together is
--- the definition's result on the card with its mark (`value-gives`, `with_mark_lem`). The points of the walk, each from the one after it:
--- `ran`, `marked`, `start`. Assumes nothing.
+-- the definition's result on the card with its mark (`value-gives`, `with_mark_lem`). Assumes nothing.
 use mathlib.Core.Path.{sym, ap, ◌∙◌}
 use Prim.Native.Nat.{◌+◌}
 use native.Mathlib.Omega.{arith}

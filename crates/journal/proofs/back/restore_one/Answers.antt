@@ -1,6 +1,6 @@
 -- `journal::back::restore_one` meets its contract: the lent part of the journal is the entry's old bytes, and its kind names the
 -- memory that they came from.
--- The walk reads the tail (`at-tail-at`), tests its kind (`at-if1`) and copies. An entry that can be read is no longer than the
+-- The code reads the tail, tests its kind and copies. An entry that can be read is no longer than the
 -- bytes that it is the end of (`no_longer`), so its old bytes lie in the journal where the code takes them. Both ways go by the
 -- same laws of `GivenBack`: the test tells the memory (`from-table`, `from_files`), the old bytes fit into it (`fits_back`), and
 -- the copy is what giving the entry back does (`given_back`). Assumes nothing.

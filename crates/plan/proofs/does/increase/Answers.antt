@@ -1,5 +1,5 @@
 -- `plan::does::increase` meets its contract: a sum that fits is the new record, and it is made with the added bytes after it.
--- The walk finds record 1 (`at-record-offset`), adds the data to it (`at-add`), and goes one of two ways by the carry, which is 0
+-- The code finds record 1, adds the data to it, and goes one of two ways by the carry, which is 0
 -- just where the sum has room in the record's bytes: a carry is the check of the sum that fails (`sum-fails`), none is that check
 -- passed (`sum_done`). Then the made bytes begin with the sum, which `add` put there, and the data, copied after it (`new-bytes`),
 -- and the change writes that sum as the new record (`new-writes`). Assumes nothing.

@@ -2,8 +2,7 @@
 -- `search` puts the numbers that it finds at the start of the made bytes and returns how many there are. None: the plan ends with
 -- 6282 and no data (`searched-none`). Some: the first of them, read back from the made bytes, becomes the record number
 -- (`searched-some`). The code goes by the row and the file memory, the definition by what it sees of the file; `as_named` says that
--- they find the same. The points of the walk are the calls of `record_of` and `search`, the test for none, and the read of the
--- first number. Assumes nothing.
+-- they find the same. Assumes nothing.
 use mathlib.Core.Path.{◌≡◌, sym, ap, ◌∙◌}
 use mathlib.Core.List.{List, []}
 use Prim.Native.Nat.{ℕ, ◌≤◌}
