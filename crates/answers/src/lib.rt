@@ -1,6 +1,7 @@
 // The reader of answers: it reads an answer once, from front to back, and says the place of its first bad byte; and the results of an
 // answer one by one.
 #![tactic(auto)]
+
 pub mod results;
 mod turns;
 pub mod words;

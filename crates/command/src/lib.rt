@@ -1,5 +1,6 @@
 // One command, in its parsed form.
 #![tactic(auto)]
+
 pub mod checks;
 pub mod ends;
 pub mod instruction;

@@ -1,5 +1,6 @@
 // Compact scripts.
 #![tactic(auto)]
+
 pub mod answer;
 mod read;
 mod reader;

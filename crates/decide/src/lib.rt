@@ -1,5 +1,6 @@
 // Deciding a command: the first check that fails, or what the instruction does, if the journal has room for it.
 #![tactic(auto)]
+
 mod checks;
 mod file;
 

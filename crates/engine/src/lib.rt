@@ -1,5 +1,6 @@
 // The three calls.
 #![tactic(auto)]
+
 mod numbers;
 mod scripts;
 

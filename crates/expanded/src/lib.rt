@@ -1,5 +1,6 @@
 // Expanded scripts.
 #![tactic(auto)]
+
 pub mod answer;
 mod capdu;
 mod reader;

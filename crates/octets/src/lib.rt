@@ -1,5 +1,6 @@
 // Bytes: big-endian numbers, writes into lent memory, and comparisons in place.
 #![tactic(auto)]
+
 ghost use Rattle.std.specs.Prelude.{◌≡◌, [], ◌∷◌, ◌++◌, ◌+◌, ◌≤◌, ◌<◌, length, drop, replicate};
 ghost use Rattle.octets.specs.Bytes.{part, num_at, bytes2, overwrite, all_zero, starts_with, contains};
 

@@ -1,5 +1,6 @@
 // What a command comes to: what its instruction does, before anything is stored.
 #![tactic(auto)]
+
 pub mod does;
 pub mod records;
 pub mod search;

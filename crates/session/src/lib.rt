@@ -1,5 +1,6 @@
 // The session of one script.
 #![tactic(auto)]
+
 pub mod fcp;
 pub mod select;
 

@@ -1,5 +1,6 @@
 // One command on a card: decided first, with nothing of the card lent to be written, and then done.
 #![tactic(auto)]
+
 mod act;
 pub mod lent;
 mod limit;

@@ -5,8 +5,6 @@ use Rattle.decide.proofs.file.activate.Lts as lts
 use Rattle.decide.proofs.file.activate.Reads as reads
 use Rattle.decide.proofs.file.activate.Tie as tie
 
-
-
 pub target_row-r-requires : goal.target_row-r-requires
 target_row-r-requires c = entry-inside c.requires.0
 

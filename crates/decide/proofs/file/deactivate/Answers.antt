@@ -5,8 +5,6 @@ use Rattle.decide.proofs.file.deactivate.Lts as lts
 use Rattle.decide.proofs.file.deactivate.Reads as reads
 use Rattle.decide.proofs.file.deactivate.Tie as tie
 
-
-
 pub target_row-r-requires : goal.target_row-r-requires
 target_row-r-requires c = entry-inside c.requires.0
 

@@ -11,8 +11,6 @@ use Rattle.engine.proofs.numbers.script_start.Lts as lts
 use Rattle.engine.proofs.numbers.script_start.Reads as reads
 use Rattle.engine.proofs.numbers.script_start.Tie as tie
 
-
-
 pub returns-in-Compact : goal.returns-in-Compact
 unfolding script_start StartFits
 returns-in-Compact c =

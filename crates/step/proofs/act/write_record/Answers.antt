@@ -9,8 +9,6 @@ use Rattle.step.proofs.act.write_record.Lts as lts
 use Rattle.step.proofs.act.write_record.Reads as reads
 use Rattle.step.proofs.act.write_record.Tie as tie
 
-
-
 pub write-next-requires : goal.write-next-requires
 unfolding cost record_writes
 write-next-requires c =
