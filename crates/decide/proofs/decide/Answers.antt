@@ -81,6 +81,7 @@ pub returns-in-Failed : goal.returns-in-Failed
 returns-in-Failed c =
     form_failed c.before.before.before.before.before.before.before.before.before.before c.formal_check.ensures c.in-Failed.is c.failed.ensures
 
+-- SELECT
 pub decide_select-requires : goal.decide_select-requires
 decide_select-requires c =
     let t = c.args.table.now in
@@ -106,6 +107,7 @@ returns-then-i-eq-SELECT c =
     ∙ form_passed c.before.before.before.before.before.before.before.before.before.before.before.before.before c.formal_check.ensures c.in_default.is)
     c.decide_select.ensures.1
 
+-- GET RESPONSE
 pub returns-in-Failed-formal_check : goal.returns-in-Failed-formal_check
 returns-in-Failed-formal_check c =
     form_failed c.before.before.before.before.before.before.before.before.before.before.before c.formal_check-then-i-eq-GET_RESPONSE.ensures c.in-Failed-formal_check.is c.failed-in-Failed-formal_check.ensures
@@ -238,6 +240,7 @@ pub returns-then-i-eq-ACTIVATE : goal.returns-then-i-eq-ACTIVATE
 returns-then-i-eq-ACTIVATE c =
     roomed_so c.before.before.before.before.before.before.before.before.before.before.before (origin c.before.before.before.before.before.before.before.before.before.before.before).requires.1 (c.activate-d.ensures _ _) c.with_room-then-i-eq-ACTIVATE.ensures
 
+-- an instruction that there is not
 pub returns : goal.returns
 unfolding situation
 returns c =

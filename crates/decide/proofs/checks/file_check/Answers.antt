@@ -81,6 +81,7 @@ Known s = Bound s.args.c s.args.lc s.args.s s.args.r
 abbrev Past : Start → ℕ → Type 0
 Past s n = Left (Known s) bound_checks (drop n bound_checks)
 
+-- the file
 file : (c : After-target) → Finds (Known c.before.before.before) NoFile (eqb c.target.result 0)
 file c = finds_file _ _ _ _ c.requires.0 c.target.ensures
 
@@ -92,6 +93,7 @@ pub returns-then-target-eq0 : goal.returns-then-target-eq0
 unfolding bound_checks
 returns-then-target-eq0 c = is-first (all_left (Known c.before.before.before.before) bound_checks) (file c.before) (eq-eqb _ _ c.if-target-eq0.true)
 
+-- the kind
 kind : (c : After-kind_fits) → Finds (Known c.before.before.before.before.before) WrongKind (not c.kind_fits.result)
 kind c = finds_kind _ _ _ _ c.requires.0 c.kind_fits.ensures
 
@@ -103,6 +105,7 @@ pub returns-then-not-kind_fits : goal.returns-then-not-kind_fits
 unfolding bound_checks
 returns-then-not-kind_fits c = is-first (past-file c.before.before) (kind c.before) (not_from_false _ c.if-not-kind_fits.true)
 
+-- the mode of DC
 mode : (c : After-wrong_mode) → Finds (Known c.before.before.before.before.before.before.before) WrongMode c.wrong_mode.result
 mode c = finds_mode _ _ _ _ c.requires.0 c.wrong_mode.ensures
 
@@ -114,6 +117,7 @@ pub returns-then-wrong_mode : goal.returns-then-wrong_mode
 unfolding bound_checks
 returns-then-wrong_mode c = is-first (past-kind c.before.before) (mode c.before) c.if-wrong_mode.true
 
+-- the state
 shut : (c : After-is_shut) → Finds (Known c.before.before.before.before.before.before.before.before.before) Deactivated c.is_shut.result
 shut c = finds_shut _ _ _ _ c.requires.0 c.is_shut.ensures
 
@@ -125,6 +129,7 @@ pub returns-then-is_shut : goal.returns-then-is_shut
 unfolding bound_checks
 returns-then-is_shut c = is-first (past-mode c.before.before) (shut c.before) c.if-is_shut.true
 
+-- the NEVER bits
 never : (c : After-is_never) → Finds (Known c.before.before.before.before.before.before.before.before.before.before.before) Never c.is_never.result
 never c = finds_never _ _ _ _ c.requires.0 c.is_never.ensures
 
@@ -136,6 +141,7 @@ pub returns-then-is_never : goal.returns-then-is_never
 unfolding bound_checks
 returns-then-is_never c = is-first (past_shut c.before.before) (never c.before) c.if-is_never.true
 
+-- the offset
 offset : (c : After-offset_outside) → Finds (Known c.before.before.before.before.before.before.before.before.before.before.before.before.before) OffsetOutside c.offset_outside.result
 unfolding offset_of
 offset c = finds_offset _ _ _ _ c.requires.0 c.offset_outside.ensures
@@ -148,6 +154,7 @@ pub returns-then-offset_outside : goal.returns-then-offset_outside
 unfolding bound_checks
 returns-then-offset_outside c = is-first (past-never c.before.before) (offset c.before) c.if-offset_outside.true
 
+-- the record
 pub no_record-requires : goal.no_record-requires
 no_record-requires c =
     let p = c.requires in
@@ -164,6 +171,7 @@ pub returns-then-no_record : goal.returns-then-no_record
 unfolding bound_checks
 returns-then-no_record c = is-first (past_offset c.before.before.before) (named c.before) c.if-no_record.true
 
+-- lengths
 length : (c : After-length_fits) → Finds (Known c.before.before.before.before.before.before.before.before.before.before.before.before.before.before.before.before.before.before) WrongLength (not c.length_fits.result)
 unfolding offset_of
 length c = finds_length _ _ _ _ c.requires.0 c.length_fits.ensures

@@ -65,6 +65,7 @@ Known s = Formal s.args.c s.args.lc s.args.domain
 abbrev Past : Start → ℕ → Type 0
 Past s n = Left (Known s) formal_checks (drop n formal_checks)
 
+-- the form
 form : (s : Start) → Finds (Known s) BrokenForm (not s.args.c.whole)
 form s = finds_form _ _ _ s.requires
 
@@ -76,6 +77,7 @@ pub returns-then-not-c : goal.returns-then-not-c
 unfolding formal_checks
 returns-then-not-c c = is-first (all_left (Known c.before.before) formal_checks) (form c.before.before) c.if-not-c.true
 
+-- the instruction
 instruction : (c : After-is_known) → Finds (Known c.before.before.before) UnknownInstruction (not c.is_known.result)
 instruction c = finds_instruction _ _ _ c.requires c.is_known.ensures
 
@@ -87,6 +89,7 @@ pub returns-then-not-is_known : goal.returns-then-not-is_known
 unfolding formal_checks
 returns-then-not-is_known c = is-first (past_form c.before.before) (instruction c.before) (not_from_false _ c.if-not-is_known.true)
 
+-- the class
 class : (c : After-class_of) → Finds (Known c.before.before.before.before.before) WrongClass (not (eqb c.args.c.class c.class_of.result))
 class c = finds_class _ _ _ c.requires c.class_of.ensures
 
@@ -98,6 +101,7 @@ pub returns-then-c-class_of : goal.returns-then-c-class_of
 unfolding formal_checks
 returns-then-c-class_of c = is-first (past-instruction c.before.before.before) (class c.before.before) (ap not (ne_eqb _ _ c.if-c-class_of.true))
 
+-- bytes after it
 after : (c : After-is_outgoing) → Finds (Known c.before.before.before.before.before.before.before.before) BytesAfter (c.is_outgoing.result && c.args.c.after)
 after c = finds_after _ _ _ c.requires c.is_outgoing.ensures
 
@@ -109,6 +113,7 @@ pub returns-then-is_outgoing-c : goal.returns-then-is_outgoing-c
 unfolding formal_checks
 returns-then-is_outgoing-c c = is-first (past-class c.before.before.before) (after c.before.before) c.if-is_outgoing-c.true
 
+-- the case
 case : (c : After-wrong_case) → Finds (Known c.before.before.before.before.before.before.before.before.before.before.before) WrongCase c.wrong_case.result
 case c = finds_case _ _ _ c.requires c.wrong_case.ensures
 
@@ -120,6 +125,7 @@ pub returns-then-wrong_case : goal.returns-then-wrong_case
 unfolding formal_checks
 returns-then-wrong_case c = is-first (past_after c.before.before) (case c.before) c.if-wrong_case.true
 
+-- P1 and P2
 parameters : (c : After-parameters_fit) → Finds (Known c.before.before.before.before.before.before.before.before.before.before.before.before.before) WrongParameters (not c.parameters_fit.result)
 parameters c = finds_parameters _ _ _ c.requires c.parameters_fit.ensures
 
@@ -131,6 +137,7 @@ pub returns-then-not-parameters_fit : goal.returns-then-not-parameters_fit
 unfolding formal_checks
 returns-then-not-parameters_fit c = is-first (past-case c.before.before) (parameters c.before) (not_from_false _ c.if-not-parameters_fit.true)
 
+-- the access domain
 domain : (c : After-wrong_domain) → Finds (Known c.before.before.before.before.before.before.before.before.before.before.before.before.before.before.before) WrongDomain c.wrong_domain.result
 domain c = finds_domain _ _ _ c.requires c.wrong_domain.ensures
 
