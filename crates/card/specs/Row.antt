@@ -1,5 +1,5 @@
 -- "The lent card": the three memories, and the table's entries of 16 bytes.
-use Rattle.std.specs.Prelude.{ℕ, ◌+◌, ◌*◌, ◌/◌, ◌≤◌, ◌<◌, Bool, not, ◌&&◌, ◌||◌, List, length, leb, eqb}
+use Rattle.std.specs.Prelude.{ℕ, ◌+◌, ◌*◌, ◌/◌, ◌≤◌, Bool, not, ◌&&◌, ◌||◌, List, length, leb, eqb}
 use Rattle.octets.specs.Bytes.{byte, num_at, part}
 use Rattle.card.specs.declared.Row.{Row}
 

@@ -8,10 +8,9 @@ use contract.Lifetimes.{Lfts}
 use denote.Triple.Clauses.{AtExit}
 use denote.Triple.Entry.{Args, Res}
 use borrow.Fn.Claims.{AllOf}
-use borrow.Fn.Read.{Read, reads, all_models, no_know}
+use borrow.Fn.Read.{reads, all_models, no_know}
 use borrow.Fn.World.{World, Pr}
 use Rattle.octets.proofs.Determined.{Determined, by_equation, pair, both}
-use Rattle.command.specs.declared.reader.Reader.{Reader}
 use Rattle.command.proofs.ends.word_of.Reads as word_of
 use Rattle.command.proofs.ends.data_count.Reads as data-count
 use Rattle.command.proofs.ends.goes_on.Reads as goes_on_lem

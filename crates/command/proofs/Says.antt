@@ -1,6 +1,6 @@
 -- The words that a command can end with: well, with 9000, 6282 or 6283, or in compact with the number of bytes that wait; or with the word
 -- of a check, 6F00 in expanded alone. So a word stops the script just where it is an error. Assumes nothing.
-use mathlib.Core.Path.{◌≡◌, refl}
+use mathlib.Core.Path.{◌≡◌}
 use mathlib.Core.Bool.{true, not}
 use mathlib.Core.Logic.{◌⊎◌, inl, inr, ⊎_elim}
 use Prim.Native.Nat.{ℕ, ◌≤◌}

@@ -2,13 +2,12 @@
 -- wait, do not. Assumes nothing.
 use mathlib.Core.Path.{◌≡◌, refl}
 use mathlib.Core.Bool.{Bool, true, false, ◌||◌}
-use mathlib.Core.Logic.{⊎_elim}
 use Prim.Native.Nat.{ℕ, ◌+◌, ◌≤◌}
 use native.Mathlib.Omega.{arith}
 use lib.Dec.{eqb}
 use borrow.Author.Tests.{le-leb}
 use Rattle.octets.proofs.Picks.{and_both}
-use Rattle.session.specs.Words.{normal, end_of_data, selected_deactivated, bytes_wait, CanBeKept}
+use Rattle.session.specs.Words.{normal, end_of_data, selected_deactivated, bytes_wait}
 use Rattle.session.specs.Session.{most_waiting}
 use Rattle.command.specs.declared.checks.Check.{Check}
 use Rattle.command.specs.declared.checks.Check.TheVariants.{BrokenForm, UnknownInstruction, WrongClass, BytesAfter, WrongCase, WrongParameters, WrongDomain, WrongPathLength, NotFound, NothingWaits, MoreThanWaits, NoFile, WrongKind, WrongMode, Deactivated, Never, OffsetOutside, NoRecord, WrongLength, SumTooLong, JournalFull, AnswerTooLong}

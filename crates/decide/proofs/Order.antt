@@ -1,5 +1,5 @@
 -- The first check of a list that fails, the checks behind the formal ones, and the kind of a file that record commands have passed. Assumes nothing.
-use mathlib.Core.Path.{◌≡◌, refl, sym, ap, ◌∙◌}
+use mathlib.Core.Path.{◌≡◌, refl, sym, ◌∙◌}
 use mathlib.Core.Bool.{Bool, true, false, ◌||◌}
 use mathlib.Core.List.{List, [], ◌∷◌}
 use mathlib.Core.Logic.{⊎_elim}
@@ -7,7 +7,7 @@ use Prim.Native.Nat.{ℕ}
 use lib.Dec.{eqb}
 use borrow.Author.Tests.{eqb-true}
 use Rattle.octets.specs.Choice.{pick}
-use Rattle.octets.proofs.Picks.{pick_true, pick-false, yes, no, picks, or_either}
+use Rattle.octets.proofs.Picks.{pick_true, pick-false, or_either}
 use Rattle.card.specs.declared.Row.{Row}
 use Rattle.card.specs.Row.{has_records}
 use Rattle.command.specs.Instructions as ins

@@ -17,7 +17,7 @@ use borrow.Author.Tests.{leb-true, ltb-false, eqb-true, le-ltb, ne_eqb}
 use Rattle.octets.specs.Choice.{pick}
 use Rattle.octets.proofs.Picks.{pick_true, pick-false, and_left, and_right, on_pick, either}
 use Rattle.card.specs.declared.tree.Found.TheVariants as Found
-use Rattle.card.specs.Row.{Card, row_of}
+use Rattle.card.specs.Row.{Card}
 use Rattle.journal.specs.Promised.{HasRoom}
 use Rattle.journal.specs.Changes.{cost}
 use Rattle.session.specs.declared.Standing.{Standing}

@@ -1,5 +1,5 @@
 -- "The journal has 2,048 bytes: 0-1 used bytes U (at most 2,044), 2 scripts on trial (0 to 16), 3 zero, then entries".
-use Rattle.std.specs.Prelude.{ℕ, zero, suc, ◌+◌, ◌-◌, ◌≤◌, Bool, true, false, ◌&&◌, List, [], ◌∷◌, ◌++◌, length, leb, eqb}
+use Rattle.std.specs.Prelude.{ℕ, zero, suc, ◌+◌, ◌-◌, Bool, true, false, ◌&&◌, List, [], ◌∷◌, ◌++◌, length, leb, eqb}
 use Rattle.octets.specs.Bytes.{byte, num_at, bytes2, part, same}
 use Rattle.journal.specs.declared.Head.{Head}
 use Rattle.journal.specs.declared.Tail.{Tail}

@@ -1,11 +1,10 @@
 -- The journal's soundness beside a table and a file memory.
-use Rattle.std.specs.Prelude.{ℕ, ◌+◌, ◌/◌, ◌%◌, ◌≤◌, ◌<◌, ◌≡◌, Bool, true, ◌&&◌, List, [], ◌∷◌, length, drop, leb, ltb, eqb}
+use Rattle.std.specs.Prelude.{ℕ, ◌+◌, ◌/◌, ◌%◌, Bool, true, ◌&&◌, List, [], ◌∷◌, length, drop, leb, ltb, eqb}
 use Rattle.octets.specs.Choice.{pick}
 use Rattle.octets.specs.Bytes.{byte, part, all_zero, same}
 use Rattle.card.specs.declared.Row.{Row}
 use Rattle.card.specs.Row.{Card, entry_size, entries, row_of, newest_byte, state_byte, is_cyclic, is_file}
 use Rattle.card.specs.Sound.{newest_sound, state_sound, sound_table}
-use Rattle.card.specs.Tree.{is_root}
 use Rattle.journal.specs.Entries.{Entry, head_size, head, head_bytes, used_bytes, scripts_on_trial, room, entry_bytes, marks_start, holds_file_bytes, holds_table_byte, is_mark, entries_of}
 
 -- "The journal has 2,048 bytes"

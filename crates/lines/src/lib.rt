@@ -1,5 +1,6 @@
 // What the programs read and print, and the worked card.
 #![tactic(auto)]
+
 pub mod digits;
 pub mod put;
 pub mod values;

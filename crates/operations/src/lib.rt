@@ -1,5 +1,6 @@
 // A list of file operations, and the script that asks a card for exactly that list.
 #![tactic(auto)]
+
 mod carried;
 pub mod rows;
 mod sizes;

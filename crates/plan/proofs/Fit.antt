@@ -21,7 +21,7 @@ use Rattle.octets.proofs.Numbers.{bytes_of-length}
 use Rattle.card.specs.declared.Row.{Row}
 use Rattle.card.specs.declared.tree.Found.{Found}
 use Rattle.card.specs.declared.tree.Found.TheVariants.{At, Nothing}
-use Rattle.card.specs.Row.{Card, row_of, is_file, is_cyclic, has_records, is_deactivated}
+use Rattle.card.specs.Row.{Card, row_of, is_cyclic, has_records, is_deactivated}
 use Rattle.card.specs.Sound.{most_file_bytes, record_count, state_sound, own_sound, sound_table}
 use Rattle.card.proofs.Promises.{few_bytes, file-inside, record_some, record_short, records-some, records-few, entry_own}
 use Rattle.journal.specs.Changes.{Write}

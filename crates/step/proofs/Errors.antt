@@ -1,7 +1,7 @@
 -- "or with an error word, changing nothing": a plan that ends with an error word is that of a failed check, which writes nothing, makes
 -- nothing and leaves the session; and so is one that the 1,000-byte rule stops. Assumes nothing.
 use mathlib.Core.Path.{◌≡◌, refl, sym, ap, ◌∙◌}
-use mathlib.Core.Bool.{Bool, true, false, false≢true}
+use mathlib.Core.Bool.{Bool, false, false≢true}
 use mathlib.Core.List.{List, [], ◌∷◌}
 use Prim.Native.Nat.{ℕ}
 use Rattle.octets.proofs.Picks.{on_pick}

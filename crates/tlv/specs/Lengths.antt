@@ -1,5 +1,5 @@
 -- "Lengths: 00-7F, 81 80-FF, 82 0100-FFFF, shortest form only." One reader for the template and for C-APDUs, and one writer.
-use Rattle.std.specs.Prelude.{ℕ, ◌+◌, ◌≤◌, ◌<◌, List, [], ◌∷◌, leb, ltb, eqb}
+use Rattle.std.specs.Prelude.{ℕ, ◌+◌, List, [], ◌∷◌, leb, ltb, eqb}
 use Rattle.octets.specs.Choice.{pick}
 use Rattle.octets.specs.Bytes.{byte, num_at, bytes2}
 use Rattle.tlv.specs.declared.lengths.Length.{Length}

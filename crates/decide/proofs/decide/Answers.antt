@@ -32,7 +32,6 @@ use Rattle.plan.specs.Promised.{plan_of, Fits}
 use Rattle.decide.proofs.Costs.{fits-brief}
 use Rattle.decide.proofs.Plans.{form_fails, behind, behind-select, behind-response, none_known, unknown_fails, Fails, nothing-decided}
 use Rattle.decide.proofs.Passed.{able, own_formal, journal_parts, journal-inside, WithRoom, room-decided}
-use Rattle.octets.proofs.Picks.{told}
 use Rattle.decide.proofs.decide.Goals as goal
 use Rattle.decide.proofs.decide.Lts as lts
 use Rattle.decide.proofs.decide.Reads as reads

@@ -1,6 +1,5 @@
 -- `octets::all_zero` meets its contract. The loop's invariant: what was found so far and the bytes from i on tell what all do. Assumes nothing.
 use mathlib.Core.Path.{refl}
-use Prim.Native.Nat.{◌-◌}
 use native.Mathlib.Omega.{arith}
 use Rattle.octets.proofs.Same.{zero_more, zero_ends}
 use Rattle.octets.proofs.all_zero.Goals as goal

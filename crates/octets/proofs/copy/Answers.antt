@@ -1,6 +1,5 @@
 -- `octets::copy` meets its contract. The loop's invariant: the first i bytes of the run are written at the place, and nothing else. Assumes nothing.
 use mathlib.Core.Path.{refl, sym, ap, ◌∙◌}
-use Prim.Native.Nat.{◌-◌}
 use native.Mathlib.Omega.{arith}
 use lib.ListN.{length-set}
 use lib.Seq.{take_all}

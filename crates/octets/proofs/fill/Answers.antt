@@ -1,7 +1,7 @@
 -- `octets::fill` meets its contract. The loop's invariant: i bytes are filled from the place on, and nothing else is changed. Assumes nothing.
 use mathlib.Core.Path.{◌≡◌, refl, sym}
 use mathlib.Core.List.{List}
-use Prim.Native.Nat.{ℕ, ◌+◌, ◌-◌, ◌<◌}
+use Prim.Native.Nat.{ℕ, ◌+◌, ◌<◌}
 use native.Mathlib.Omega.{arith}
 use lib.ListN.{length, set, replicate, length-set, length-replicate, replicate-append-replicate}
 use Rattle.octets.specs.Bytes.{overwrite}

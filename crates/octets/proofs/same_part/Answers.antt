@@ -1,6 +1,6 @@
 -- `octets::same_part` meets its contract. The loop's invariant: what was found so far and the bytes from i on tell what all do. Assumes nothing.
 use native.Mathlib.Nat.{add-zero}
-use Prim.Native.Nat.{◌+◌, ◌-◌}
+use Prim.Native.Nat.{◌+◌}
 use native.Mathlib.Omega.{arith}
 use Rattle.octets.specs.Bytes.{part}
 use Rattle.octets.proofs.Same.{part_more, starts_ends}

@@ -1,6 +1,5 @@
 -- `octets::within` meets its contract. The loop's invariant: the run stands in the memory just where it stands in what is left from i on. Assumes nothing.
 use mathlib.Core.Path.{refl, sym, ◌∙◌}
-use Prim.Native.Nat.{◌-◌}
 use native.Mathlib.Omega.{arith}
 use lib.ListN.{length-drop}
 use Rattle.octets.proofs.Same.{starts-not, contains-short, contains-found, contains-goes_on, contains_ends}

@@ -1,9 +1,6 @@
 -- `card::sound::earlier_sound` meets its contract. The loop's invariant: the row and each entry before d are sound as a pair. Assumes nothing.
-use mathlib.Core.Bool.{true}
-use Prim.Native.Nat.{◌-◌}
 use native.Mathlib.Omega.{arith}
 use Rattle.octets.proofs.Picks.{all_none, all-fails, all_more, all_ends}
-use Rattle.card.specs.Sound.{pair_sound}
 use Rattle.std.proofs.lemmas.Bool.{not_from_true, not_from_false}
 use Rattle.card.proofs.sound.earlier_sound.Goals as goal
 

@@ -1,9 +1,7 @@
 -- `card::sound::entries_sound` meets its contract. The loop's invariant: the entries before e are sound. Assumes nothing.
-use mathlib.Core.Bool.{true}
-use Prim.Native.Nat.{◌-◌}
 use native.Mathlib.Omega.{arith}
 use Rattle.octets.proofs.Picks.{all_none, all-fails, all_more, all_ends}
-use Rattle.card.specs.Sound.{entry_sound, entries_sound}
+use Rattle.card.specs.Sound.{entries_sound}
 use Rattle.std.proofs.lemmas.Bool.{not_from_true, not_from_false}
 use Rattle.card.proofs.sound.entries_sound.Goals as goal
 

@@ -1,6 +1,4 @@
 -- `card::sound::pairs_sound` meets its contract. The loop's invariant: the entries before e are sound in pairs. Assumes nothing.
-use mathlib.Core.Bool.{true}
-use Prim.Native.Nat.{◌-◌}
 use native.Mathlib.Omega.{arith}
 use Rattle.octets.proofs.Picks.{all_none, all-fails, all_more, all_ends}
 use Rattle.card.specs.Sound.{pairs_sound}

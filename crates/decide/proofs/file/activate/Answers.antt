@@ -1,9 +1,6 @@
 -- `decide::file::activate` meets its contract: the first check that fails, or what ACTIVATE does. Assumes nothing.
 use Rattle.decide.proofs.Passed.{file-small, entry-inside, to_check, check_failed, activates, check_switched}
 use Rattle.decide.proofs.file.activate.Goals as goal
-use Rattle.decide.proofs.file.activate.Lts as lts
-use Rattle.decide.proofs.file.activate.Reads as reads
-use Rattle.decide.proofs.file.activate.Tie as tie
 
 pub target_row-r-requires : goal.target_row-r-requires
 target_row-r-requires c = entry-inside c.requires.0

@@ -1,9 +1,6 @@
 -- `decide::file::deactivate` meets its contract: the first check that fails, or what DEACTIVATE does. Assumes nothing.
 use Rattle.decide.proofs.Passed.{file-small, entry-inside, to_check, check_failed, deactivates, check_switched}
 use Rattle.decide.proofs.file.deactivate.Goals as goal
-use Rattle.decide.proofs.file.deactivate.Lts as lts
-use Rattle.decide.proofs.file.deactivate.Reads as reads
-use Rattle.decide.proofs.file.deactivate.Tie as tie
 
 pub target_row-r-requires : goal.target_row-r-requires
 target_row-r-requires c = entry-inside c.requires.0

@@ -1,5 +1,4 @@
 -- `plan::sum::add` meets its contract. The loop's invariant: after i digits the sum's last i bytes are written, and the carry is what is left of it. Assumes nothing.
-use Prim.Native.Nat.{◌-◌}
 use native.Mathlib.Omega.{arith}
 use Rattle.plan.proofs.Digits.{begins, goes_on_lem, ends}
 use Rattle.plan.proofs.sum.add.Goals as goal

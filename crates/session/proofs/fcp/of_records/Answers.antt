@@ -1,7 +1,7 @@
 -- `session::fcp::of_records` meets its contract. Assumes nothing.
 use native.Mathlib.Omega.{arith}
 use Rattle.octets.specs.Bytes.{bytes2}
-use Rattle.session.specs.Fcp.{fcp83, fcp8_a}
+use Rattle.session.specs.Fcp.{fcp83, fcp8a}
 use Rattle.session.proofs.Template.{records-fcp}
 use Rattle.session.proofs.fcp.of_records.Goals as goal
 
@@ -15,7 +15,7 @@ overflow_cast-result-3 c =
     omega arith
 
 pub returns : goal.returns
-unfolding fcp83 fcp8_a bytes2
+unfolding fcp83 fcp8a bytes2
 returns c =
     let p = c.requires in
     rw (c.record_descriptor.ensures, c.record_count-count.ensures.0) (records-fcp _ p.0 p.1.most)

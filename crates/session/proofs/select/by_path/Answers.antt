@@ -1,6 +1,5 @@
 -- `session::select::by_path` meets its contract. The loop's invariant: what is left of the path finds from e what the whole path finds. Assumes nothing.
 use mathlib.Core.Path.{refl, sym, ◌∙◌}
-use Prim.Native.Nat.{◌-◌}
 use native.Mathlib.Omega.{arith}
 use Rattle.card.specs.Tree.{child}
 use Rattle.session.proofs.Finds.{path_goes_on, path_fails, path_odd, path_ends}

@@ -5,9 +5,6 @@ use Rattle.journal.proofs.Pushed.{own_used}
 use Rattle.plan.specs.Promised.{record_writes}
 use Rattle.step.proofs.Acts.{second_left, record_steps}
 use Rattle.step.proofs.act.write_record.Goals as goal
-use Rattle.step.proofs.act.write_record.Lts as lts
-use Rattle.step.proofs.act.write_record.Reads as reads
-use Rattle.step.proofs.act.write_record.Tie as tie
 
 pub write-next-requires : goal.write-next-requires
 unfolding cost record_writes

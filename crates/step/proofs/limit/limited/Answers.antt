@@ -4,7 +4,6 @@ use borrow.Author.Tests.{lt-ltb, le-ltb}
 use Rattle.command.specs.Outcomes.{data_count}
 use Rattle.step.specs.Limits.{rapdu_size}
 use Rattle.step.proofs.Limited.{counts_so, none_counts, passing, within}
-use Rattle.octets.proofs.Picks.{told}
 use Rattle.step.proofs.limit.limited.Goals as goal
 use Rattle.step.proofs.limit.limited.Lts as lts
 use Rattle.step.proofs.limit.limited.Reads as reads
