@@ -1,7 +1,7 @@
 -- Numbers that are packed into one are taken from it as they were: each is the digits of the sum in its own places. It is said of any three
 -- numbers of which the lower two share the lowest 32 bits (`low_back`, `middle_back`, `high_back`), and then of a number, a count and a
 -- length. Assumes nothing.
-use Prim.Native.Nat.{ℕ, ◌+◌, ◌*◌, ◌^◌, ◌/◌, ◌%◌, ◌≤◌, ◌<◌}
+use Prim.Native.Nat.{ℕ, ◌+◌, ◌*◌, ◌^◌, ◌/◌, ◌%◌, ◌<◌}
 use mathlib.Core.Path.{◌≡◌, refl, sym, ap, ◌∙◌}
 use native.Mathlib.Nat.{add-mul, mul_assoc, mul_comm}
 use native.Mathlib.Omega.{arith}

@@ -2,7 +2,7 @@
 -- the parts that its definition says (`built-crosses`, `parts_cross`, `shown-crosses`). What is read and told fits, as an answer that is read
 -- has at most 16,777,215 bytes (`read_fits`, `told-few`). Assumes nothing.
 use Prim.Native.Nat.{ℕ, ◌^◌, ◌≤◌, ◌<◌}
-use mathlib.Core.Path.{◌≡◌, refl, sym, ap, ◌∙◌}
+use mathlib.Core.Path.{◌≡◌, refl, ap, ◌∙◌}
 use mathlib.Core.List.{List}
 use native.Mathlib.Omega.{arith}
 use lib.ListN.{length}
