@@ -46,7 +46,7 @@ neither a b = (λ h. absurd (a h), λ h. absurd (b h))
 not_both : (b : Bool) → b ≡ true → b ≡ false → ⊥
 not_both b y n = false≢true (sym n ∙ y)
 
--- the numbers of a take_back and of a confirmation, by what they test
+-- the numbers of a take-back and of a confirmation, by what they test
 module _ (c : Card) where
   back_tests : (sound none : Bool) → sound_card c ≡ sound → eqb (scripts_on_trial c.journal) 0 ≡ none → TakeBackNumber c (pick (not sound) 1 (pick none 7 0))
   unfolding pick

@@ -53,7 +53,7 @@ pub record RunNumber (a : Arguments) (c : Card) (n : ℕ) : Type 0 where
       × (template_fits (format_of a.format a.script) a.script ≡ true)
   pub no_other : n ≤ 6
 
--- n is the number of a take_back
+-- n is the number of a take-back
 pub record TakeBackNumber (c : Card) (n : ℕ) : Type 0 where
   pub one : n ≡ 1 ↔ (sound_card c ≡ false)
   pub seven : n ≡ 7 ↔ (sound_card c ≡ true) × (scripts_on_trial c.journal ≡ 0)
