@@ -51,7 +51,7 @@ scripts k = own_scripts (card k.before).journal k.head_of.ensures.0
 
 -- past the second there is a script on trial
 some : (o : Else2) → scripts_on_trial (card o.before.before.before).journal ≡ 0 → ⊥
-some o none = o.if-head_of-eq0.false (scripts o.before.before ∙ none)
+some o none = omega (arith, scripts o.before.before, none)
 
 pub returns-then-not-sound_card : goal.returns-then-not-sound_card
 returns-then-not-sound_card c =
