@@ -1,3 +1,4 @@
+pub mod Lent
 pub mod Row
 pub mod Sound
 pub mod Tree

@@ -8,6 +8,7 @@
 // Identifier, start and length are big-endian numbers of two bytes; `record` is the record length, and `never` the NEVER bits.
 #![tactic(auto)]
 
+pub mod lent;
 pub mod records;
 pub mod rules;
 pub mod sound;

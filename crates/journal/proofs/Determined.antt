@@ -3,7 +3,7 @@
 use mathlib.Core.Path.{◌∙◌, ap}
 use contract.Lifetimes.{Lfts}
 use Rattle.octets.proofs.Determined.{Determined, by_equation, pair, both}
-use Rattle.card.specs.Row.{lent}
+use Rattle.card.specs.Lent.{held}
 use Rattle.journal.specs.Entries.{head_of}
 use Rattle.journal.proofs.entry_bytes.Reads as entry_bytes_lem
 use Rattle.journal.proofs.read.head_of.Reads as head_of
@@ -35,12 +35,13 @@ module _ (κs : Lfts 1) where
   pub confirm_determined : Determined (confirm.Learnt κs) (λ args a e. e.0.now)
   confirm_determined = by_equation (λ args a e h. h)
 
+module _ (κs : Lfts 2) where
+  pub take_back_determined : Determined (take_back.Learnt κs) (λ args a e. held e.0.now)
+  take_back_determined = by_equation (λ args a e h. h.0)
+
 module _ (κs : Lfts 3) where
   pub sound_card_determined : Determined (sound-card.Learnt κs) (λ args a e. a)
   sound_card_determined = by_equation (λ args a e h. h)
-
-  pub take_back_determined : Determined (take_back.Learnt κs) (λ args a e. lent e.0.now e.1.0.now e.1.1.0.now)
-  take_back_determined = by_equation (λ args a e h. h)
 
   -- the head is that of the journal at exit, which is fixed
   pub write_determined : Determined (write.Learnt κs) (λ args a e. pair a (pair e.0.now e.1.0.now))

@@ -1,6 +1,7 @@
 // Taking the newest script back, and confirming all.
 ghost use Rattle.std.specs.Prelude.{◌≡◌, true, ◌+◌, ◌≤◌, length, drop};
 ghost use Rattle.octets.specs.Bytes.{zeros, all_zero};
+ghost use Rattle.card.specs.Lent.{StaysLent, held};
 ghost use Rattle.card.specs.Row.{lent};
 ghost use Rattle.journal.specs.Entries.{used_bytes, scripts_on_trial, readable, entry_at, entries_back};
 ghost use Rattle.journal.specs.Sound.{all_sound, marks, sound_card};
@@ -8,6 +9,7 @@ ghost use Rattle.journal.specs.Changes.{memory_of, memory_for, restore_one, rest
 
 use crate::read::{head_of, tail_at};
 use crate::{HEAD_SIZE, HOLDS_TABLE_BYTE, MARKS_START, TAIL_SIZE};
+use card::lent::LentCard;
 
 // Gives back the old bytes of the entry that ends where the first u bytes of entries end; they lie inside their memory.
 fn restore_one(table: &mut [u8], files: &mut [u8], journal: &[u8], u: usize)
@@ -44,10 +46,14 @@ fn restore_to_mark(table: &mut [u8], files: &mut [u8], journal: &[u8], used: usi
 }
 
 // Takes back the newest script of a sound card: gives its entries back, writes the head, then zeros the freed bytes.
-pub fn take_back(table: &mut [u8], files: &mut [u8], journal: &mut [u8])
-    requires { (sound_card (lent table.old files.old journal.old) ≡ true) × (1 ≤ scripts_on_trial journal.old) }
-    ensures { lent table.new files.new journal.new ≡ taken_back (lent table.old files.old journal.old) }
+pub fn take_back(card: &mut LentCard<'_>)
+    requires { (sound_card (held card.old) ≡ true) × (1 ≤ scripts_on_trial (held card.old).journal) }
+    ensures taken_back { held card.new ≡ taken_back (held card.old) }
+    ensures stays { StaysLent card.old card.new }
 {
+    let table = &mut *card.table;
+    let files = &mut *card.files;
+    let journal = &mut *card.journal;
     let head = head_of(journal);
     let u = restore_to_mark(table, files, journal, head.used);
     octets::put_head(journal, u, head.scripts - 1, 0);
