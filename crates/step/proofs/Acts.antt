@@ -54,7 +54,7 @@ table-write t f j place new {at} e ht hj =
     one-write Table (lent t f j) (at + 0) (new ∷ []) ht hj ∙ ap (λ (p : ℕ). write (record { memory = Table; place = p; new = new ∷ [] }) (lent t f j)) z
 
 -- the two writes of a new record
-module _ (t f j : List ℕ) {h : Head} (r : NewRecord) (new : List ℕ) (ready : WriteRecordAsks t f j h r new) where
+module _ (t f j : List ℕ) {h : Head} (r : NewRecord) (new : List ℕ) (ready : WriteRecordAsks (lent t f j) h r new) where
   abbrev place : ℕ
   place = r.start + r.record_length * r.place
 

@@ -16,12 +16,12 @@ use Rattle.step.specs.Limits.{most_kept}
 
 -- a new record can be written: it lies inside the card, its bytes are a record, and the journal, whose head is given, has room for its
 -- writes
-pub record WriteRecordAsks (table files journal : List ℕ) (h : Head) (r : NewRecord) (new : List ℕ) : Type 0 where
-  pub fits : RecordFits (length table) (length files) r
+pub record WriteRecordAsks (card : Card) (h : Head) (r : NewRecord) (new : List ℕ) : Type 0 where
+  pub fits : RecordFits (length card.table) (length card.files) r
   pub whole : length new ≡ r.record_length
-  pub head : h ≡ head_of journal
-  pub short : length journal ≤ 65535
-  pub left : HasRoom journal (cost (record_writes r new))
+  pub head : h ≡ head_of card.journal
+  pub short : length card.journal ≤ 65535
+  pub left : HasRoom card.journal (cost (record_writes r new))
 
 -- a change can be done, with the command's data and the bytes at whose start stands what it made: it lies inside the card, and the
 -- journal, whose used bytes are a 16-bit number, has room for its writes

@@ -1,12 +1,13 @@
 // Doing what was decided: the one function that stores into a card while a script runs.
 ghost use Rattle.std.specs.Prelude.{◌≡◌, ◌+◌, ◌<◌, length};
-ghost use Rattle.card.specs.Row.{lent};
+ghost use Rattle.card.specs.Lent.{StaysLent, held};
 ghost use Rattle.journal.specs.Changes as changes;
 ghost use Rattle.session.specs.Session.{most_waiting, session_of};
 ghost use Rattle.step.specs.Steps.{carried_out, moved_to};
 ghost use Rattle.plan.specs.Promised.{record_writes, writes_of, plan_of};
 ghost use Rattle.step.specs.Promised.{WriteRecordAsks, PerformAsks};
 
+use card::lent::LentCard;
 use command::Outcome;
 use journal::read::head_of;
 use journal::write::write;
@@ -15,21 +16,15 @@ use plan::{Change, Decision, NewRecord};
 use session::Standing;
 
 // Writes a new record of a cyclic file: its bytes at the oldest place, then the newest place.
-fn write_record(
-    table: &mut [u8],
-    files: &mut [u8],
-    journal: &mut [u8],
-    head: Head,
-    r: NewRecord,
-    new: &[u8],
-)
-    requires { WriteRecordAsks table.old files.old journal.old head r new.now }
-    ensures { lent table.new files.new journal.new ≡ changes.perform (record_writes r new.now) (lent table.old files.old journal.old) }
+fn write_record(card: &mut LentCard<'_>, head: Head, r: NewRecord, new: &[u8])
+    requires { WriteRecordAsks (held card.old) head r new.now }
+    ensures written { held card.new ≡ changes.perform (record_writes r new.now) (held card.old) }
+    ensures stays { StaysLent card.old card.new }
 {
     let place = r.place;
     let next = write(
-        files,
-        journal,
+        card.files,
+        card.journal,
         head,
         Memory::Files,
         r.start,
@@ -39,8 +34,8 @@ fn write_record(
     );
     let newest = [place as u8];
     write(
-        table,
-        journal,
+        card.table,
+        card.journal,
         next,
         Memory::Table,
         card::place_of_newest(r.entry),
@@ -51,24 +46,19 @@ fn write_record(
 }
 
 // Does a change, with the command's data and what it made.
-pub fn perform(
-    change: Change,
-    data: &[u8],
-    made: &[u8],
-    table: &mut [u8],
-    files: &mut [u8],
-    journal: &mut [u8],
-)
-    requires { PerformAsks (lent table.old files.old journal.old) change «data».now made.now }
-    ensures { lent table.new files.new journal.new ≡ changes.perform (writes_of change «data».now made.now) (lent table.old files.old journal.old) }
+pub fn perform(change: Change, data: &[u8], made: &[u8], card: &mut LentCard<'_>)
+    requires { PerformAsks (held card.old) change «data».now made.now }
+    ensures performed { held card.new ≡ changes.perform (writes_of change «data».now made.now) (held card.old) }
+    ensures stays { StaysLent card.old card.new }
 {
+    let journal = &mut *card.journal;
+    let head = head_of(journal);
     match change {
         Change::Nothing => {}
         Change::Content(start, size, offset) => {
-            let head = head_of(journal);
             write(
-                files,
-                journal,
+                card.files,
+                card.journal,
                 head,
                 Memory::Files,
                 start,
@@ -77,19 +67,23 @@ pub fn perform(
                 data,
             );
         }
-        Change::DataRecord(r) => {
-            let head = head_of(journal);
-            write_record(table, files, journal, head, r, data);
-        }
+        Change::DataRecord(r) => write_record(card, head, r, data),
         Change::SumRecord(r) => {
             let n = r.record_length;
-            let head = head_of(journal);
-            write_record(table, files, journal, head, r, &made[..n]);
+            write_record(card, head, r, &made[..n]);
         }
         Change::TableByte(place, new) => {
             let byte = [new as u8];
-            let head = head_of(journal);
-            write(table, journal, head, Memory::Table, place, 1, 0, &byte);
+            write(
+                card.table,
+                card.journal,
+                head,
+                Memory::Table,
+                place,
+                1,
+                0,
+                &byte,
+            );
         }
     }
 }
@@ -111,24 +105,20 @@ pub fn carry_out(
     data: &[u8],
     made: &[u8],
     waiting: &mut [u8],
-    table: &mut [u8],
-    files: &mut [u8],
-    journal: &mut [u8],
+    card: &mut LentCard<'_>,
 ) -> Done
-    requires { PerformAsks (lent table.old files.old journal.old) d.change «data».now made.now × (length waiting.old ≡ most_waiting) × (count < 65535) }
-    ensures { (moved_to (session_of result.standing waiting.new) result.outcome (lent table.new files.new journal.new)
-        ≡ carried_out (plan_of d «data».now made.now) waiting.old (lent table.old files.old journal.old))
+    requires { PerformAsks (held card.old) d.change «data».now made.now × (length waiting.old ≡ most_waiting) × (count < 65535) }
+    ensures done { (moved_to (session_of result.standing waiting.new) result.outcome (held card.new)
+        ≡ carried_out (plan_of d «data».now made.now) waiting.old (held card.old))
         × (result.count ≡ count + 1) }
+    ensures stays { StaysLent card.old card.new }
 {
-    let change = d.change;
-    let standing = d.session;
-    let outcome = d.outcome;
     let n = d.made as usize;
-    perform(change, data, made, table, files, journal);
+    perform(d.change, data, made, card);
     octets::copy(waiting, 0, &made[..n]);
     Done {
-        standing,
-        outcome,
+        standing: d.session,
+        outcome: d.outcome,
         count: count + 1,
     }
 }

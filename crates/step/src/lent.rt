@@ -1,11 +1,12 @@
 // "One session's directory, file, record number and waiting bytes move on with each command": the session is lent to a thin step, which
 // calls the by-value command function.
 ghost use Rattle.std.specs.Prelude.{◌≡◌, ◌+◌, ◌<◌, length};
-ghost use Rattle.card.specs.Row.{lent};
+ghost use Rattle.card.specs.Lent.{StaysLent, held};
 ghost use Rattle.step.specs.Steps.{not_begun, moved_to, commanded};
 ghost use Rattle.step.specs.Promised as spec;
 
 use crate::run_command;
+use card::lent::LentCard;
 use command::ends::NORMAL;
 use command::{Command, Format, Outcome};
 use session::Session;
@@ -39,14 +40,13 @@ pub fn step(
     kept: usize,
     counts: bool,
     made: &mut [u8],
-    table: &mut [u8],
-    files: &mut [u8],
-    journal: &mut [u8],
+    card: &mut LentCard<'_>,
 ) -> Ended
-    requires { spec.RunCommandAsks (lent table.old files.old journal.old) session.old.standing c (length «data».now) kept made.old × (count < 65535) }
-    ensures { (moved_to session.new result.outcome (lent table.new files.new journal.new)
-        ≡ commanded format domain c «data».now session.old kept counts (lent table.old files.old journal.old))
+    requires { spec.RunCommandAsks (held card.old) session.old.standing c (length «data».now) kept made.old × (count < 65535) }
+    ensures ran { (moved_to session.new result.outcome (held card.new)
+        ≡ commanded format domain c «data».now session.old kept counts (held card.old))
         × (result.count ≡ count + 1) }
+    ensures stays { StaysLent card.old card.new }
 {
     let after = run_command(
         format,
@@ -59,9 +59,7 @@ pub fn step(
         counts,
         made,
         &mut session.waiting,
-        table,
-        files,
-        journal,
+        card,
     );
     session.standing = after.standing;
     Ended {

@@ -6,12 +6,13 @@ pub mod lent;
 mod limit;
 
 ghost use Rattle.std.specs.Prelude.{◌≡◌, ◌+◌, ◌<◌, length};
-ghost use Rattle.card.specs.Row.{lent};
+ghost use Rattle.card.specs.Lent.{StaysLent, held};
 ghost use Rattle.session.specs.Session.{most_waiting, session_of};
 ghost use Rattle.step.specs.Steps.{moved_to, commanded};
 ghost use Rattle.step.specs.Promised as spec;
 
 use act::{Done, carry_out};
+use card::lent::LentCard;
 use command::{Command, Format};
 use decide::decide;
 use limit::limited;
@@ -31,15 +32,17 @@ fn run_command(
     counts: bool,
     made: &mut [u8],
     waiting: &mut [u8],
-    table: &mut [u8],
-    files: &mut [u8],
-    journal: &mut [u8],
+    card: &mut LentCard<'_>,
 ) -> Done
-    requires { spec.RunCommandAsks (lent table.old files.old journal.old) s c (length «data».now) kept made.old × (length waiting.old ≡ most_waiting) × (count < 65535) }
-    ensures { (moved_to (session_of result.standing waiting.new) result.outcome (lent table.new files.new journal.new)
-        ≡ commanded format domain c «data».now (session_of s waiting.old) kept counts (lent table.old files.old journal.old))
+    requires { spec.RunCommandAsks (held card.old) s c (length «data».now) kept made.old × (length waiting.old ≡ most_waiting) × (count < 65535) }
+    ensures ran { (moved_to (session_of result.standing waiting.new) result.outcome (held card.new)
+        ≡ commanded format domain c «data».now (session_of s waiting.old) kept counts (held card.old))
         × (result.count ≡ count + 1) }
+    ensures stays { StaysLent card.old card.new }
 {
+    let table = &mut *card.table;
+    let files = &mut *card.files;
+    let journal = &mut *card.journal;
     let d = decide(format, domain, c, data, s, table, files, journal, made);
     carry_out(
         limited(d, s, kept, counts),
@@ -47,8 +50,6 @@ fn run_command(
         data,
         made,
         waiting,
-        table,
-        files,
-        journal,
+        card,
     )
 }
