@@ -3,3 +3,4 @@ pub mod Kin
 pub mod Promises
 pub mod Kept
 pub mod Determined
+pub mod Stays

@@ -2,7 +2,7 @@
 ghost use Rattle.std.specs.Prelude.{◌≡◌, ◌≤◌, length};
 ghost use Rattle.octets.specs.Bytes.{part};
 ghost use Rattle.octets.specs.Choice.{pick};
-ghost use Rattle.card.specs.Row.{lent};
+ghost use Rattle.card.specs.Lent.{StaysLent, held};
 ghost use Rattle.journal.specs.Promised.{Starts};
 ghost use Rattle.session.specs.Session.{most_waiting};
 ghost use Rattle.command.specs.Outcomes.{word_of, goes_on};
@@ -11,6 +11,7 @@ ghost use Rattle.step.specs.Steps.{state_of};
 ghost use Rattle.compact.specs.Compact as spec;
 
 use crate::reader::next_reading;
+use card::lent::LentCard;
 use command::ends::{goes_on, word_of};
 use command::{Format, Outcome, Reading, Step};
 use step::lent::{not_begun, step};
@@ -43,12 +44,11 @@ fn run_lent(
     application: usize,
     domain: usize,
     made: &mut [u8],
-    table: &mut [u8],
-    files: &mut [u8],
-    journal: &mut [u8],
+    card: &mut LentCard<'_>,
 ) -> Step
-    requires { Starts (lent table.old files.old journal.old) application × (length script.now ≤ longest_script) × (length made.old ≡ most_waiting) }
-    ensures { state_of result (lent table.new files.new journal.new) ≡ spec.run script.now application domain (lent table.old files.old journal.old) }
+    requires { Starts (held card.old) application × (length script.now ≤ longest_script) × (length made.old ≡ most_waiting) }
+    ensures ran { state_of result (held card.new) ≡ spec.run script.now application domain (held card.old) }
+    ensures stays { StaysLent card.old card.new }
 {
     let mut session = session::start(application);
     let mut ended = not_begun();
@@ -66,9 +66,7 @@ fn run_lent(
             0,
             false,
             made,
-            table,
-            files,
-            journal,
+            card,
         );
         at = next_place(script, reading, ended.outcome);
     }
@@ -80,25 +78,11 @@ fn run_lent(
 }
 
 // Runs a whole script of an application on a sound card with the script's mark. Returns the script's last step.
-pub fn run(
-    script: &[u8],
-    application: usize,
-    domain: usize,
-    table: &mut [u8],
-    files: &mut [u8],
-    journal: &mut [u8],
-) -> Step
-    requires { Starts (lent table.old files.old journal.old) application × (length script.now ≤ longest_script) }
-    ensures { state_of result (lent table.new files.new journal.new) ≡ spec.run script.now application domain (lent table.old files.old journal.old) }
+pub fn run(script: &[u8], application: usize, domain: usize, card: &mut LentCard<'_>) -> Step
+    requires { Starts (held card.old) application × (length script.now ≤ longest_script) }
+    ensures ran { state_of result (held card.new) ≡ spec.run script.now application domain (held card.old) }
+    ensures stays { StaysLent card.old card.new }
 {
     let mut made = [0; 255];
-    run_lent(
-        script,
-        application,
-        domain,
-        &mut made,
-        table,
-        files,
-        journal,
-    )
+    run_lent(script, application, domain, &mut made, card)
 }

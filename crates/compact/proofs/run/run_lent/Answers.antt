@@ -4,7 +4,9 @@ use Rattle.std.proofs.Common.{◌≡◌, ◌<◌, ℕ, ◌+◌, ◌-◌, List, f
 use Rattle.octets.specs.Bytes.{part}
 use Rattle.octets.specs.Choice.{pick as choose}
 use Rattle.octets.proofs.Writes.{part-lent}
-use Rattle.card.specs.Row.{Card, lent}
+use Rattle.card.specs.Lent.{held}
+use Rattle.card.specs.Row.{Card}
+use Rattle.card.proofs.Stays.{stays, stays_on}
 use Rattle.command.specs.declared.Command.{Command}
 use Rattle.command.specs.declared.Format.TheVariants.{Compact}
 use Rattle.command.specs.declared.Reading.{Reading}
@@ -43,6 +45,7 @@ loop-at-init c =
     record {
       going = begins c.requires.0 (λ i. record { session = c.start-session.ensures i; outcome = (c.not_begun-ended.ensures i).outcome; count = (c.not_begun-ended.ensures i).count });
       made = c.requires.2;
+      stays = stays _;
     }
 
 pub step-ended-requires : goal.step-ended-requires
@@ -67,13 +70,13 @@ fewer a b n on more = omega arith
 
 -- the script's state after the command of this turn
 did : (c : goal.After-next_place-at)
-    → state_of (step_of c.step-ended.new.session c.step-ended.result) (lent c.step-ended.new.table c.step-ended.new.files c.step-ended.new.journal)
-    ≡ step_read c.args.script.now c.args.domain c.next_reading-reading.result (state_of (step_of c.loop-at.session c.loop-at.ended) (lent c.loop-at.table c.loop-at.files c.loop-at.journal))
+    → state_of (step_of c.step-ended.new.session c.step-ended.result) (held c.step-ended.new.card)
+    ≡ step_read c.args.script.now c.args.domain c.next_reading-reading.result (state_of (step_of c.loop-at.session c.loop-at.ended) (held c.loop-at.card))
 did c =
-    let card = lent c.loop-at.table c.loop-at.files c.loop-at.journal in
+    let card = held c.loop-at.card in
     let before = step_of c.loop-at.session c.loop-at.ended in
     told c.args.script.now c.args.domain c.next_reading-reading.result before card c.data_of-data.ensures
-    (one_more before (step_of c.step-ended.new.session c.step-ended.result) card _ _ c.step-ended.ensures.0 c.step-ended.ensures.1)
+    (one_more before (step_of c.step-ended.new.session c.step-ended.result) card _ _ c.step-ended.ensures.ran.0 c.step-ended.ensures.ran.1)
 
 pub loop-at-smaller : goal.loop-at-smaller
 loop-at-smaller c =
@@ -87,7 +90,8 @@ loop-at-preserved c =
     record {
       going = rw c.next_place-at.ensures (moves c.loop-at.invariant.going c.loop-at-test.true (did c) read.0 read.1);
       made = c.step-ended.auto.made ∙ c.loop-at.invariant.made;
+      stays = stays_on c.loop-at.invariant.stays c.step-ended.ensures.stays;
     }
 
-pub returns : goal.returns
-returns c = ends c.loop-at.invariant.going (omega arith)
+pub returns-clause-ran : goal.returns-clause-ran
+returns-clause-ran c = ends c.loop-at.invariant.going (omega arith)
