@@ -11,7 +11,8 @@ use lib.Seq.{length-take-le}
 use contract.Lifetimes.{Lfts}
 use Rattle.octets.proofs.Determined.{Determined, by_equation, Pair, pair, both}
 use Rattle.octets.proofs.Writes.{part_length}
-use Rattle.card.specs.Row.{Card, lent}
+use Rattle.card.specs.Lent.{held}
+use Rattle.card.specs.Row.{Card}
 use Rattle.expanded.specs.declared.run.Gathered.{Gathered}
 use Rattle.expanded.specs.Expanded.{Progress, progress_of, room_to_gather}
 use Rattle.expanded.proofs.answer.put_answer.Reads as put-answer
@@ -36,15 +37,15 @@ by-progress g card out same fits =
     (both (sym (length-take-le g.kept out (omega arith)) ∙ ap (λ p. length p.kept) same)
     (sym (part_length out g.kept g.last fits) ∙ ap (λ p. length p.last) same))
 
-module _ (κs : Lfts 5) where
+module _ (κs : Lfts 4) where
   pub run_determined :
       Determined (λ args a e. run.Learnt κs args a e × (length e.1.1.1.1.1.1.0.now ≡ room_to_gather))
       (λ args a e.
       let rest = e.1.1.1.1.1.1 in
-      seen a (lent rest.1.0.now rest.1.1.0.now rest.1.1.1.0.now) rest.0.now)
+      seen a (held rest.1.0.now) rest.0.now)
   run_determined =
       by_equation (λ args a e h.
       let rest = e.1.1.1.1.1.1 in
-      let fits = h.0.1 in
+      let fits = h.0.0.1 in
       let room = h.1 in
-      by-progress a (lent rest.1.0.now rest.1.1.0.now rest.1.1.1.0.now) rest.0.now h.0.0 (omega arith))
+      by-progress a (held rest.1.0.now) rest.0.now h.0.0.0 (omega arith))

@@ -29,7 +29,7 @@ use Rattle.step.specs.Limits.{most_kept}
 use Rattle.expanded.specs.declared.run.Gathered.{Gathered}
 use Rattle.expanded.specs.Expanded.{room_to_gather, Progress, progress_of, answered, step_capdu, step_bad, run_from, begun}
 use Rattle.expanded.specs.declared.run.Reached.{Reached}
-use Rattle.expanded.specs.Promised.{next_at, Reaches}
+use Rattle.expanded.specs.Promised.{Reaches}
 
 -- an item that is known lies in the value
 module _ {at end : ℕ} {item : Item} where
@@ -110,7 +110,7 @@ module _ {script : List ℕ} {definite : Bool} {from end application domain : �
 
   -- a script that is going
   module _ {card : Card} {out : List ℕ} {g : Gathered} {at : ℕ} (going : Going script definite from end application domain card₀ card out g at) where
-    pub reaches : (next_at script at end).is_capdu ≡ false → Reaches script definite from end application domain card₀ card out (record { gathered = g; at = at })
+    pub reaches : ((start size : ℕ) → item_at script at end ≡ Capdu start size → ⊥) → Reaches script definite from end application domain card₀ card out (record { gathered = g; at = at })
     reaches none =
         record {
           inside = going.inside;

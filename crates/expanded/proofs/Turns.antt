@@ -1,9 +1,9 @@
 -- One C-APDU of a script that is going: what running it asks, what gathering its R-APDU asks, and that the script is going again behind it.
--- The place is that of `next`, which says what stands there. A command of bytes, read from a C-APDU, may run on the card and in the
+-- A command of bytes, read from a C-APDU, may run on the card and in the
 -- session that hold. Under the 1,000-byte rule its R-APDU has room behind those kept (`step-told`), and session and card hold after it
 -- (`limited_holds`). What is gathered then is the progress of the definition (`stands`), so the script is going (`moves`). Assumes nothing.
 use mathlib.Core.Path.{◌≡◌, refl, sym, ap, subst, ◌∙◌}
-use mathlib.Core.Bool.{Bool, true, false, false≢true}
+use mathlib.Core.Bool.{Bool, true, false}
 use mathlib.Core.List.{List}
 use Prim.Native.Nat.{ℕ, ◌+◌, ◌≤◌, ◌<◌}
 use native.Mathlib.Omega.{arith}
@@ -11,9 +11,8 @@ use lib.ListN.{length, length-take}
 use Rattle.octets.specs.Choice.{pick}
 use Rattle.octets.specs.Bytes.{part, overwrite}
 use Rattle.card.specs.Row.{Card}
-use Rattle.tlv.specs.declared.template.Item.{Item}
-use Rattle.tlv.specs.declared.template.Item.TheVariants.{Capdu, Bad, End}
-use Rattle.tlv.specs.Templates.{item_at}
+use Rattle.tlv.specs.declared.template.Item.TheVariants.{Capdu}
+use Rattle.tlv.specs.Templates.{least_capdu, item_at}
 use Rattle.journal.specs.Changes.{taken_back}
 use Rattle.session.specs.declared.Session.{Session}
 use Rattle.session.specs.Session.{most_waiting}
@@ -30,41 +29,22 @@ use Rattle.step.proofs.Keeps.{Holds}
 use Rattle.step.proofs.Moved.{one_more}
 use Rattle.expanded.specs.declared.run.Gathered.{Gathered}
 use Rattle.expanded.specs.declared.run.Rapdus.{Rapdus}
-use Rattle.expanded.specs.declared.run.Next.{Next}
 use Rattle.expanded.specs.Capdu.{capdu_command}
 use Rattle.expanded.specs.Expanded.{keeps, rapdu, room_to_gather, gathered_in, gathered_of, last_rapdu}
-use Rattle.expanded.specs.Promised.{CapduFits, CapduLies, next_of, next_at, next_place}
+use Rattle.expanded.specs.Promised.{CapduFits, next_place}
 use Rattle.expanded.proofs.Going.{Going, moves}
 use Rattle.expanded.proofs.Limited.{step-told}
 use Rattle.expanded.proofs.Runs.{limited_holds}
 use Rattle.expanded.proofs.Steps.{Within, gathered_within, stands}
 
--- what stands at a place knows the place, and a C-APDU that stands there is the item there
-place_of : (at : ℕ) (item : Item) → (next_of at item).at ≡ at
-unfolding next_of
-place_of at (Capdu from size) = refl
-place_of at (Bad code) = refl
-place_of at End = refl
-
-item_of : (at : ℕ) (item : Item) {next : Next} → next ≡ next_of at item → next.is_capdu ≡ true → item ≡ Capdu next.from next.size
-unfolding next_of
-item_of at (Capdu from size) e is = λ i. Capdu (sym e i).from (sym e i).size
-item_of at (Bad code) e is = absurd (false≢true (sym (ap (λ (n : Next). n.is_capdu) e) ∙ is))
-item_of at End e is = absurd (false≢true (sym (ap (λ (n : Next). n.is_capdu) e) ∙ is))
-
--- what stands at a place is what stands at its own place
-pub at_place : (script : List ℕ) (at end : ℕ) {next : Next} → next ≡ next_at script at end → at ≡ next.at
-at_place script at end e = sym (ap (λ (n : Next). n.at) e ∙ place_of at (item_at script at end))
-
-module _ {script : List ℕ} {definite : Bool} {from end application domain : ℕ} {card₀ card : Card} {out : List ℕ} {g : Gathered} {next : Next}
-    (going : Going script definite from end application domain card₀ card out g next.at) (there : next ≡ next_at script next.at end) (is : next.is_capdu ≡ true) (lies : CapduLies end next)
-    {reading : Reading} (reads : reading ≡ capdu_command (part script next.from next.size)) (fits : CapduFits (part script next.from next.size) reading)
-    {«data» : List ℕ} (has : «data» ≡ part (part script next.from next.size) reading.from reading.size) where
+module _ {script : List ℕ} {definite : Bool} {from end application domain : ℕ} {card₀ card : Card} {out : List ℕ} {g : Gathered} {at : ℕ} (going : Going script definite from end application domain card₀ card out g at)
+    {start size : ℕ} (is : item_at script at end ≡ Capdu start size) (lies : (at < start) × (start + size ≤ end) × (least_capdu ≤ size)) {capdu : List ℕ} (there : capdu ≡ part script start size)
+    {reading : Reading} (reads : reading ≡ capdu_command capdu) (fits : CapduFits capdu reading) {«data» : List ℕ} (has : «data» ≡ part capdu reading.from reading.size) where
   few_data : length «data» < 256
   few_data = rw (has, length-take) (omega (arith, fits.bytes.brief))
 
   few-kept : g.kept ≤ most_kept
-  few-kept = going.kept (omega (arith, lies.further, lies.inside))
+  few-kept = going.kept (omega (arith, lies.0, lies.1))
 
   -- what `step` asks
   pub asks : end ≤ length script → length script ≤ longest_script → {made : List ℕ} → length made ≡ most_waiting
@@ -108,20 +88,20 @@ module _ {script : List ℕ} {definite : Bool} {from end application domain : �
       within : Within after
       within = gathered_within counts after.step g.kept (rapdu_size (data_count o)) told.1 few-kept told.2 gathers
 
-      pub goes_on_lem : Going script definite from end application domain card₀ card' out' after (next_place next o end)
+      pub goes_on_lem : Going script definite from end application domain card₀ card' out' after (next_place (start + size) o end)
       unfolding next_place last_rapdu
       goes_on_lem =
-          moves going after out' (item_of next.at (item_at script next.at end) there is) lies.further lies.inside
-          (stands g card out (omega (arith, few-kept)) definite domain (part script next.from next.size) reading reads counts keep «data» has
+          moves going after out' is lies.0 lies.1
+          (stands g card out (omega (arith, few-kept)) definite domain (part script start size) reading (reads ∙ ap capdu_command there) counts keep «data» (has ∙ ap (λ (c : List ℕ). part c reading.from reading.size) there)
           after.step card' (one_more g.step after.step card card' _ did one) (rapdu_size (data_count o)) (sym sized) (omega (arith, told.1)) written gathers)
           within.0 within.1 holds
 
   -- the place behind it is further on
-  later : (b : Bool) → next.at < pick b (next.from + next.size) end
+  later : (b : Bool) → at < pick b (start + size) end
   unfolding pick
-  later true = omega (arith, lies.further)
-  later false = omega (arith, lies.further, lies.inside)
+  later true = omega (arith, lies.0)
+  later false = omega (arith, lies.0, lies.1)
 
-  pub further : (o : Outcome) → next.at < next_place next o end
+  pub further : (o : Outcome) → at < next_place (start + size) o end
   unfolding next_place
   further o = later (goes_on (word_of o))

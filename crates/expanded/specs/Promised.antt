@@ -1,11 +1,10 @@
--- What promises speak of besides the rules: where the data of a C-APDU lie, what stands at a place of a value, what running a script and
--- its items asks, and how far its C-APDUs bring it.
-use Rattle.std.specs.Prelude.{ℕ, ◌+◌, ◌≤◌, ◌<◌, ◌≡◌, Bool, true, false, List, length}
+-- What promises speak of besides the rules: where the data of a C-APDU lie, where a script goes on, what running a script and its items
+-- asks, and how far its C-APDUs bring it.
+use Rattle.std.specs.Prelude.{ℕ, ◌+◌, ◌≤◌, ◌<◌, ◌≡◌, Bool, List, length}
 use Rattle.card.specs.Row.{Card}
 use Rattle.octets.specs.Choice.{pick}
-use Rattle.tlv.specs.declared.template.Item.{Item}
-use Rattle.tlv.specs.declared.template.Item.TheVariants.{Capdu, Bad, End}
-use Rattle.tlv.specs.Templates.{least_capdu, item_at}
+use Rattle.tlv.specs.declared.template.Item.TheVariants.{Capdu}
+use Rattle.tlv.specs.Templates.{item_at}
 use Rattle.journal.specs.Promised.{Starts}
 use Rattle.command.specs.declared.Reading.{Reading}
 use Rattle.command.specs.declared.Outcome.{Outcome}
@@ -13,7 +12,6 @@ use Rattle.command.specs.Outcomes.{word_of, goes_on}
 use Rattle.command.specs.Promised.{OfBytes}
 use Rattle.step.specs.Limits.{longest_script, most_kept}
 use Rattle.expanded.specs.declared.run.Gathered.{Gathered}
-use Rattle.expanded.specs.declared.run.Next.{Next}
 use Rattle.expanded.specs.declared.run.Reached.{Reached}
 use Rattle.expanded.specs.Expanded.{room_to_gather, progress_of, run_from, begun}
 
@@ -22,24 +20,9 @@ pub record CapduFits (capdu : List ℕ) (r : Reading) : Type 0 where
   pub inside : r.from + r.size ≤ length capdu
   pub bytes : OfBytes r.command r.size
 
--- what stands at the place `at` of a value, by the item there: whether it is a C-APDU, and where that lies
-unfoldable pub next_of : ℕ → Item → Next
-next_of at (Capdu from size) = record { at = at; is_capdu = true; from = from; size = size }
-next_of at (Bad code) = record { at = at; is_capdu = false; from = at; size = 0 }
-next_of at End = record { at = at; is_capdu = false; from = at; size = 0 }
-
-abbrev pub next_at : List ℕ → ℕ → ℕ → Next
-next_at script at end = next_of at (item_at script at end)
-
--- a C-APDU that stands there lies further on in the value, and is no shorter than one may be
-pub record CapduLies (end : ℕ) (next : Next) : Type 0 where
-  pub further : next.at < next.from
-  pub inside : next.from + next.size ≤ end
-  pub least : least_capdu ≤ next.size
-
--- the place where a script goes on: after a C-APDU, or at the end of the value where its outcome stops the script
-unfoldable pub next_place : Next → Outcome → ℕ → ℕ
-next_place next o end = pick (goes_on (word_of o)) (next.from + next.size) end
+-- the place where a script goes on: after a C-APDU that ends at `behind`, or at the end of the value where its outcome stops the script
+unfoldable pub next_place : ℕ → Outcome → ℕ → ℕ
+next_place behind o end = pick (goes_on (word_of o)) behind end
 
 -- what a Bad format TLV asks: its code is a byte, there are few commands before it, and it has room after the R-APDUs that are kept
 pub record StepBadAsks (code : ℕ) (before : Gathered) (out : List ℕ) : Type 0 where
@@ -54,7 +37,7 @@ pub record Reaches (script : List ℕ) (definite : Bool) (from end application d
   pub counted : r.gathered.step.count ≤ r.at
   pub kept : r.at < end → r.gathered.kept ≤ most_kept
   pub room : r.gathered.kept + r.gathered.last ≤ room_to_gather
-  pub none : (next_at script r.at end).is_capdu ≡ false
+  pub none : (from size : ℕ) → item_at script r.at end ≡ Capdu from size → ⊥
   pub rounds : ℕ
   pub enough : end ≤ r.at + rounds
   pub whole : run_from rounds script domain definite r.at end (progress_of r.gathered card out) ≡ run_from (length script) script domain definite from end (begun application card₀)

@@ -1,18 +1,19 @@
 // Running an expanded script.
-ghost use Rattle.std.specs.Prelude.{◌≡◌, true, ◌+◌, ◌≤◌, length};
+ghost use Rattle.std.specs.Prelude.{◌≡◌, ◌+◌, ◌≤◌, length};
 ghost use Rattle.octets.specs.Bytes.{part, overwrite};
-ghost use Rattle.card.specs.Row.{Card, lent};
+ghost use Rattle.card.specs.Lent.{StaysLent, held};
+ghost use Rattle.card.specs.Row.{Card};
 ghost use Rattle.session.specs.Session.{most_waiting};
 ghost use Rattle.command.specs.Outcomes.{word_of, data_of, data_count};
 ghost use Rattle.command.specs.Promised.{OutcomeFits};
 ghost use Rattle.step.specs.Limits.{longest_script, rapdu_size};
 ghost use Rattle.expanded.specs.Expanded as spec;
-ghost use Rattle.expanded.specs.Capdu.{capdu_command};
-ghost use Rattle.expanded.specs.Promised.{CapduFits, CapduLies, Reaches, RunAsks, StepBadAsks, next_at, next_place};
+ghost use Rattle.expanded.specs.Promised.{Reaches, RunAsks, StepBadAsks, next_place};
 
 use crate::answer::{put_bad, put_rapdu};
 use crate::capdu::command_of;
 use crate::reader::next_item;
+use card::lent::LentCard;
 use command::ends::{goes_on, word_of};
 use command::{Format, Outcome, Reading, Step};
 use step::lent::{not_begun, step};
@@ -75,63 +76,25 @@ fn gather(
     }
 }
 
-// What stands at the place `at` of a template's value: whether it is a C-APDU, and then where it begins and how many bytes it has.
-#[derive(Clone, Copy)]
-struct Next {
-    at: usize,
-    is_capdu: bool,
-    from: usize,
-    size: usize,
-}
-
-// Returns what stands at the place `at` of a value that ends at `end`.
-fn next_at(script: &[u8], at: usize, end: usize) -> Next
-    requires { (at ≤ end) × (end ≤ length script.now) }
-    ensures { (result ≡ next_at script.now at end) × (result.is_capdu ≡ true → CapduLies end result) }
-{
-    let Item::Capdu(from, size) = next_item(script, at, end) else {
-        return Next {
-            at,
-            is_capdu: false,
-            from: at,
-            size: 0,
-        };
-    };
-    Next {
-        at,
-        is_capdu: true,
-        from,
-        size,
-    }
-}
-
-// Returns what stands where a script goes on: after a C-APDU, or at the end of the value where its outcome stops the script.
-fn next_after(script: &[u8], capdu: Next, o: Outcome, end: usize) -> Next
-    requires { (capdu.from + capdu.size ≤ end) × (end ≤ length script.now) }
-    ensures { (result ≡ next_at script.now (next_place capdu o end) end) × (result.is_capdu ≡ true → CapduLies end result) }
+// Returns the place where a script goes on: after a C-APDU that ends at `behind`, or at the end of the value where its outcome stops the
+// script.
+fn next_place(behind: usize, o: Outcome, end: usize) -> usize
+    ensures { result ≡ next_place behind o end }
 {
     if goes_on(word_of(o)) {
-        return next_at(script, capdu.from + capdu.size, end);
+        return behind;
     }
-    next_at(script, end, end)
+    end
 }
 
-// Returns the command that a C-APDU of a script is, and where its data lie in the C-APDU.
-fn command_at(script: &[u8], next: Next) -> Reading
-    requires { CapduLies (length script.now) next }
-    ensures { (result ≡ capdu_command (part script.now next.from next.size)) × CapduFits (part script.now next.from next.size) result }
+// Returns the data of the command that a C-APDU is.
+fn data_of<'s>(capdu: &'s [u8], reading: Reading) -> &'s [u8]
+    requires { reading.from + reading.size ≤ length capdu.now }
+    ensures { result.now ≡ part capdu.now reading.from reading.size }
 {
-    command_of(capdu(script, next.from, next.size))
-}
-
-// Returns the data of the command that a C-APDU of a script is.
-fn data_at<'s>(script: &'s [u8], next: Next, reading: Reading) -> &'s [u8]
-    requires { CapduLies (length script.now) next × (reading.from + reading.size ≤ next.size) }
-    ensures { result.now ≡ part (part script.now next.from next.size) reading.from reading.size }
-{
-    let from = next.from + reading.from;
+    let from = reading.from;
     let end = from + reading.size;
-    &script[from..end]
+    &capdu[from..end]
 }
 
 // A script whose C-APDUs were run up to the place `at`.
@@ -152,35 +115,33 @@ fn run_capdus(
     domain: usize,
     out: &mut [u8],
     made: &mut [u8],
-    table: &mut [u8],
-    files: &mut [u8],
-    journal: &mut [u8],
+    card: &mut LentCard<'_>,
 ) -> Reached
-    requires { RunAsks script.now at end (lent table.old files.old journal.old) application out.old × (length made.old ≡ most_waiting) }
-    ensures { Reaches script.now definite at end application domain (lent table.old files.old journal.old) (lent table.new files.new journal.new) out.new result }
+    requires { RunAsks script.now at end (held card.old) application out.old × (length made.old ≡ most_waiting) }
+    ensures reaches { Reaches script.now definite at end application domain (held card.old) (held card.new) out.new result }
+    ensures stays { StaysLent card.old card.new }
 {
     let mut session = session::start(application);
     let mut ended = not_begun();
     let mut rapdus = none_gathered();
-    let mut next = next_at(script, at, end);
-    while next.is_capdu {
-        let reading = command_at(script, next);
-        let data = data_at(script, next, reading);
+    let mut place = at;
+    while let Item::Capdu(from, size) = next_item(script, place, end) {
+        let capdu = capdu(script, from, size);
+        let reading = command_of(capdu);
         let counts = keeps(definite, reading.command.case);
         ended = step(
             &mut session,
             Format::Expanded,
             domain,
             reading.command,
-            data,
+            data_of(capdu, reading),
             ended.count,
             rapdus.kept,
             counts,
             made,
-            table,
-            files,
-            journal,
+            card,
         );
+        let files = &mut *card.files;
         rapdus = gather(
             counts,
             ended.outcome,
@@ -189,7 +150,7 @@ fn run_capdus(
             files,
             &session.waiting,
         );
-        next = next_after(script, next, ended.outcome, end);
+        place = next_place(from + size, ended.outcome, end);
     }
     Reached {
         gathered: Gathered {
@@ -201,7 +162,7 @@ fn run_capdus(
             kept: rapdus.kept,
             last: rapdus.last,
         },
-        at: next.at,
+        at: place,
     }
 }
 
@@ -231,13 +192,12 @@ pub fn run(
     application: usize,
     domain: usize,
     out: &mut [u8],
-    table: &mut [u8],
-    files: &mut [u8],
-    journal: &mut [u8],
+    card: &mut LentCard<'_>,
 ) -> Gathered
-    requires { RunAsks script.now at end (lent table.old files.old journal.old) application out.old }
-    ensures { (spec.progress_of result (lent table.new files.new journal.new) out.new ≡ spec.run_from (length script.now) script.now domain definite at end (spec.begun application (lent table.old files.old journal.old)))
+    requires { RunAsks script.now at end (held card.old) application out.old }
+    ensures ran { (spec.progress_of result (held card.new) out.new ≡ spec.run_from (length script.now) script.now domain definite at end (spec.begun application (held card.old)))
         × (result.kept + result.last ≤ spec.room_to_gather) × (result.step.count ≤ longest_script) }
+    ensures stays { StaysLent card.old card.new }
 {
     let mut made = [0; 255];
     let reached = run_capdus(
@@ -249,9 +209,7 @@ pub fn run(
         domain,
         out,
         &mut made,
-        table,
-        files,
-        journal,
+        card,
     );
     let g = reached.gathered;
     let Item::Bad(code) = next_item(script, reached.at, end) else {

@@ -11,29 +11,26 @@ use denote.Enum.Declared.{tag_of}
 use Rattle.tlv.specs.declared.template.Item.{Item}
 use Rattle.tlv.specs.declared.template.Item.TheVariants.{Capdu, Bad, End}
 use Rattle.tlv.specs.contracts.template.Item as I
-use Rattle.expanded.specs.Promised.{next_of}
 use Rattle.expanded.proofs.Going.{bad_lies, ends, breaks}
 use Rattle.expanded.proofs.run.run.Goals as goal
 
 -- an item that is no C-APDU and no Bad format TLV
-nothing_left : (at : ℕ) (item : Item) → (next_of at item).is_capdu ≡ false → ((code : ℕ) → item ≡ Bad code → ⊥) → item ≡ End
-unfolding next_of
-nothing_left at (Capdu from size) none e = absurd (false≢true (sym none))
-nothing_left at (Bad code) none e = absurd (e code refl)
-nothing_left at End none e = refl
+nothing_left : (item : Item) → ((from size : ℕ) → item ≡ Capdu from size → ⊥) → ((code : ℕ) → item ≡ Bad code → ⊥) → item ≡ End
+nothing_left (Capdu from size) none e = absurd (none from size refl)
+nothing_left (Bad code) none e = absurd (e code refl)
+nothing_left End none e = refl
 
-pub returns-in_default : goal.returns-in_default
-returns-in_default c =
+pub returns-in_default-clause-ran : goal.returns-in_default-clause-ran
+returns-in_default-clause-ran c =
     let item = c.next_item in
-    let reached = c.run_capdus-reached.ensures in
-    let at = c.run_capdus-reached.result.at in
-    let known = nothing_left at item.result (ap (λ (i : Item). (next_of at i).is_capdu) item.ensures.0 ∙ reached.none) c.in_default.not-Bad in
+    let reached = c.run_capdus-reached.ensures.reaches in
+    let known = nothing_left item.result (λ from size e. reached.none from size (sym item.ensures.0 ∙ e)) c.in_default.not-Bad in
     let d = ends reached item.ensures.0 known in
     (d.0, d.1, omega (arith, d.2, c.requires.inside, c.requires.short))
 
 pub step_bad-requires : goal.step_bad-requires
 step_bad-requires c =
-    let reached = c.run_capdus-reached.ensures in
+    let reached = c.run_capdus-reached.ensures.reaches in
     let lies = bad_lies c.next_item.ensures.1 c.in-Bad.is in
     record {
       byte = lies.1;
@@ -42,9 +39,9 @@ step_bad-requires c =
       room = omega (arith, c.requires.room, c.run_capdus-reached.auto.out);
     }
 
-pub returns : goal.returns
-returns c =
-    let reached = c.run_capdus-reached.ensures in
+pub returns-clause-ran : goal.returns-clause-ran
+returns-clause-ran c =
+    let reached = c.run_capdus-reached.ensures.reaches in
     let done = c.step_bad in
     let i = c.next_item.ensures in
     let d = breaks reached i.0 i.1 done.result _ _ done.ensures.1 c.in-Bad.is (done.ensures.0 _) in
