@@ -15,27 +15,7 @@ use card::lent::LentCard;
 use command::ends::{goes_on, word_of};
 use command::{Format, Outcome, Reading, Step};
 use step::lent::{not_begun, step};
-
-// Returns the data of a command that was read.
-fn data_of<'s>(script: &'s [u8], reading: Reading) -> &'s [u8]
-    requires { spec.place_after reading ≤ length script.now }
-    ensures { result.now ≡ part script.now reading.from reading.size }
-{
-    let from = reading.from;
-    let end = from + reading.size;
-    &script[from..end]
-}
-
-// Returns the place where a script goes on: after a command that was read, or at its end where the command's outcome stops it.
-fn next_place(script: &[u8], reading: Reading, o: Outcome) -> usize
-    requires { spec.place_after reading ≤ length script.now }
-    ensures { result ≡ pick (goes_on (word_of o)) (spec.place_after reading) (length script.now) }
-{
-    if goes_on(word_of(o)) {
-        return reading.from + reading.size;
-    }
-    script.len()
-}
+use step::read::{data_of, next_place};
 
 // Runs a whole script of an application on a sound card with the script's mark: its session is lent to the step, command by command.
 // Returns the script's last step.
@@ -68,7 +48,7 @@ fn run_lent(
             made,
             card,
         );
-        at = next_place(script, reading, ended.outcome);
+        at = next_place(reading.from + reading.size, ended.outcome, script.len());
     }
     Step {
         session,

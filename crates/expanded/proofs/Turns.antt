@@ -31,7 +31,7 @@ use Rattle.expanded.specs.declared.run.Gathered.{Gathered}
 use Rattle.expanded.specs.declared.run.Rapdus.{Rapdus}
 use Rattle.expanded.specs.Capdu.{capdu_command}
 use Rattle.expanded.specs.Expanded.{keeps, rapdu, room_to_gather, gathered_in, gathered_of, last_rapdu}
-use Rattle.expanded.specs.Promised.{CapduFits, next_place}
+use Rattle.expanded.specs.Promised.{CapduFits}
 use Rattle.expanded.proofs.Going.{Going, moves}
 use Rattle.expanded.proofs.Limited.{step-told}
 use Rattle.expanded.proofs.Runs.{limited_holds}
@@ -88,8 +88,8 @@ module _ {script : List ℕ} {definite : Bool} {from end application domain : �
       within : Within after
       within = gathered_within counts after.step g.kept (rapdu_size (data_count o)) told.1 few-kept told.2 gathers
 
-      pub goes_on_lem : Going script definite from end application domain card₀ card' out' after (next_place (start + size) o end)
-      unfolding next_place last_rapdu
+      pub goes_on_lem : Going script definite from end application domain card₀ card' out' after (pick (goes_on (word_of o)) (start + size) end)
+      unfolding last_rapdu
       goes_on_lem =
           moves going after out' is lies.0 lies.1
           (stands g card out (omega (arith, few-kept)) definite domain (part script start size) reading (reads ∙ ap capdu_command there) counts keep «data» (has ∙ ap (λ (c : List ℕ). part c reading.from reading.size) there)
@@ -102,6 +102,5 @@ module _ {script : List ℕ} {definite : Bool} {from end application domain : �
   later true = omega (arith, lies.0)
   later false = omega (arith, lies.0, lies.1)
 
-  pub further : (o : Outcome) → at < next_place (start + size) o end
-  unfolding next_place
+  pub further : (o : Outcome) → at < pick (goes_on (word_of o)) (start + size) end
   further o = later (goes_on (word_of o))

@@ -1,14 +1,10 @@
--- What promises speak of besides the rules: where the data of a C-APDU lie, where a script goes on, what running a script and its items
--- asks, and how far its C-APDUs bring it.
+-- What promises speak of besides the rules: where the data of a C-APDU lie, what running a script and its items asks, and how far its C-APDUs bring it.
 use Rattle.std.specs.Prelude.{ℕ, ◌+◌, ◌≤◌, ◌<◌, ◌≡◌, Bool, List, length}
 use Rattle.card.specs.Row.{Card}
-use Rattle.octets.specs.Choice.{pick}
 use Rattle.tlv.specs.declared.template.Item.TheVariants.{Capdu}
 use Rattle.tlv.specs.Templates.{item_at}
 use Rattle.journal.specs.Promised.{Starts}
 use Rattle.command.specs.declared.Reading.{Reading}
-use Rattle.command.specs.declared.Outcome.{Outcome}
-use Rattle.command.specs.Outcomes.{word_of, goes_on}
 use Rattle.command.specs.Promised.{OfBytes}
 use Rattle.step.specs.Limits.{longest_script, most_kept}
 use Rattle.expanded.specs.declared.run.Gathered.{Gathered}
@@ -19,10 +15,6 @@ use Rattle.expanded.specs.Expanded.{room_to_gather, progress_of, run_from, begun
 pub record CapduFits (capdu : List ℕ) (r : Reading) : Type 0 where
   pub inside : r.from + r.size ≤ length capdu
   pub bytes : OfBytes r.command r.size
-
--- the place where a script goes on: after a C-APDU that ends at `behind`, or at the end of the value where its outcome stops the script
-unfoldable pub next_place : ℕ → Outcome → ℕ → ℕ
-next_place behind o end = pick (goes_on (word_of o)) behind end
 
 -- what a Bad format TLV asks: its code is a byte, there are few commands before it, and it has room after the R-APDUs that are kept
 pub record StepBadAsks (code : ℕ) (before : Gathered) (out : List ℕ) : Type 0 where

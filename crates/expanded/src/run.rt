@@ -8,7 +8,7 @@ ghost use Rattle.command.specs.Outcomes.{word_of, data_of, data_count};
 ghost use Rattle.command.specs.Promised.{OutcomeFits};
 ghost use Rattle.step.specs.Limits.{longest_script, rapdu_size};
 ghost use Rattle.expanded.specs.Expanded as spec;
-ghost use Rattle.expanded.specs.Promised.{Reaches, RunAsks, StepBadAsks, next_place};
+ghost use Rattle.expanded.specs.Promised.{Reaches, RunAsks, StepBadAsks};
 
 use crate::answer::{put_bad, put_rapdu};
 use crate::capdu::command_of;
@@ -17,6 +17,7 @@ use card::lent::LentCard;
 use command::ends::{goes_on, word_of};
 use command::{Format, Outcome, Reading, Step};
 use step::lent::{not_begun, step};
+use step::read::{data_of, next_place};
 use tlv::template::{Item, capdu};
 
 // The bytes that a script's R-APDUs are gathered in: 1,000, and the R-APDU of a last command without data.
@@ -74,27 +75,6 @@ fn gather(
         kept,
         last: end - kept,
     }
-}
-
-// Returns the place where a script goes on: after a C-APDU that ends at `behind`, or at the end of the value where its outcome stops the
-// script.
-fn next_place(behind: usize, o: Outcome, end: usize) -> usize
-    ensures { result ≡ next_place behind o end }
-{
-    if goes_on(word_of(o)) {
-        return behind;
-    }
-    end
-}
-
-// Returns the data of the command that a C-APDU is.
-fn data_of<'s>(capdu: &'s [u8], reading: Reading) -> &'s [u8]
-    requires { reading.from + reading.size ≤ length capdu.now }
-    ensures { result.now ≡ part capdu.now reading.from reading.size }
-{
-    let from = reading.from;
-    let end = from + reading.size;
-    &capdu[from..end]
 }
 
 // A script whose C-APDUs were run up to the place `at`.

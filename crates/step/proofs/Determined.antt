@@ -1,5 +1,5 @@
--- Each contract of a public function of `lent` allows one result: whatever the arguments and the first contents of session and card, two
--- results that it allows are the same. Of `step` is seen how the command ended, the count, the session and every byte of the card's
+-- Each contract of a public function of this crate allows one result: whatever the arguments and the first contents of session and card,
+-- two results that it allows are the same. Of `step` is seen how the command ended, the count, the session and every byte of the card's
 -- memories. The bytes that are lent for what a command makes are no part of it (docs/PROMISES.md has them as an exception). Assumes nothing.
 use contract.Lifetimes.{Lfts}
 use Rattle.octets.proofs.Determined.{Determined, by_equation, pair, both}
@@ -7,10 +7,19 @@ use Rattle.card.specs.Lent.{held}
 use Rattle.step.specs.Steps.{moved_to}
 use Rattle.step.proofs.lent.not_begun.Reads as not-begun
 use Rattle.step.proofs.lent.step.Reads as step
+use Rattle.step.proofs.read.data_of.Reads as data-of
+use Rattle.step.proofs.read.next_place.Reads as next-place
 
 module _ (κs : Lfts 0) where
   pub not_begun_determined : Determined (not-begun.Learnt κs) (λ args a e. a)
   not_begun_determined = by_equation (λ args a e h. h)
+
+  pub next_place_determined : Determined (next-place.Learnt κs) (λ args a e. a)
+  next_place_determined = by_equation (λ args a e h. h)
+
+module _ (κs : Lfts 1) where
+  pub data_of_determined : Determined (data-of.Learnt κs) (λ args a e. a.now)
+  data_of_determined = by_equation (λ args a e h. h)
 
 module _ (κs : Lfts 5) where
   pub step_determined : Determined (step.Learnt κs) (λ args a e. pair (moved_to e.0.now a.outcome (held e.1.1.1.1.1.1.1.1.1.0.now)) a.count)

@@ -4,6 +4,7 @@
 mod act;
 pub mod lent;
 mod limit;
+pub mod read;
 
 ghost use Rattle.std.specs.Prelude.{◌≡◌, ◌+◌, ◌<◌, length};
 ghost use Rattle.card.specs.Lent.{StaysLent, held};

@@ -17,8 +17,8 @@ use Rattle.decide.specs.Decisions.{situation, planned}
 use Rattle.step.specs.Limits.{limited}
 use Rattle.step.specs.Steps.{State, state_of, started, carried_out, stepped, commanded}
 use Rattle.step.proofs.Keeps.{starts-small}
-use Rattle.step.proofs.Moved.{one_more, step_of}
-use Rattle.compact.specs.Compact.{step_read}
+use Rattle.step.proofs.Moved.{one_more, step_of, fewer}
+use Rattle.compact.specs.Compact.{place_after, step_read}
 use Rattle.compact.proofs.Going.{begins, ends, moves, further}
 use Rattle.compact.proofs.run.run_lent.Goals as goal
 
@@ -64,10 +64,6 @@ step-ended-requires c =
       omega arith,
     )
 
--- further on there is less left
-fewer : (a b n : ℕ) → a < b → a < n → n - b < n - a
-fewer a b n on more = omega arith
-
 -- the script's state after the command of this turn
 did : (c : goal.After-next_place-at)
     → state_of (step_of c.step-ended.new.session c.step-ended.result) (held c.step-ended.new.card)
@@ -78,13 +74,23 @@ did c =
     told c.args.script.now c.args.domain c.next_reading-reading.result before card c.data_of-data.ensures
     (one_more before (step_of c.step-ended.new.session c.step-ended.result) card _ _ c.step-ended.ensures.ran.0 c.step-ended.ensures.ran.1)
 
+pub data_of-data-requires : goal.data_of-data-requires
+unfolding place_after
+data_of-data-requires c = let inside = c.next_reading-reading.ensures.1.inside in omega arith
+
+pub overflow_add-reading : goal.overflow_add-reading
+unfolding place_after
+overflow_add-reading c = let inside = c.next_reading-reading.ensures.1.inside in omega arith
+
 pub loop-at-smaller : goal.loop-at-smaller
+unfolding place_after
 loop-at-smaller c =
     let read = c.next_reading-reading.ensures in
     let on = further c.loop-at.invariant.going c.loop-at-test.true (did c) read.0 read.1 in
     fewer c.loop-at.at c.next_place-at.result (length c.args.script.now) (subst (λ (k : ℕ). c.loop-at.at < k) (sym c.next_place-at.ensures) on) c.loop-at-test.true
 
 pub loop-at-preserved : goal.loop-at-preserved
+unfolding place_after
 loop-at-preserved c =
     let read = c.next_reading-reading.ensures in
     record {

@@ -8,7 +8,7 @@ use Rattle.card.specs.Lent.{held}
 use Rattle.card.proofs.Stays.{stays, stays_on}
 use Rattle.step.specs.Steps.{started}
 use Rattle.step.proofs.Keeps.{starts-small}
-use Rattle.step.proofs.Moved.{step_of}
+use Rattle.step.proofs.Moved.{step_of, fewer}
 use Rattle.tlv.specs.declared.template.Item.TheVariants.{Capdu}
 use Rattle.tlv.specs.Templates.{least_capdu, item_at}
 use Rattle.expanded.specs.declared.run.Rapdus.{Rapdus}
@@ -20,10 +20,6 @@ use Rattle.expanded.proofs.run.run_capdus.Goals as goal
 -- a C-APDU of the value is no shorter than it says
 whole : (script : List ℕ) (start size : ℕ) → start + size ≤ length script → {capdu : List ℕ} → capdu ≡ part script start size → length capdu ≡ size
 whole script start size inside there = rw there (part_length script start size inside)
-
--- further on there is less left
-fewer : (a b n : ℕ) → a < b → a < n → n - b < n - a
-fewer a b n on more = omega arith
 
 pub start-session-requires : goal.start-session-requires
 start-session-requires c = omega (arith, starts-small _ _ c.requires.0.starts)
