@@ -1,4 +1,5 @@
 -- The bound on the commands that are read is no limit: each command, and each piece of a template, takes a byte or more. Assumes nothing.
+use Rattle.std.specs.Prelude.{Option, Some, None}
 use Prim.Native.Nat.{ℕ, zero, suc, ◌+◌, ◌≤◌, ◌<◌}
 use mathlib.Core.Path.{◌≡◌, refl, sym, ap}
 use mathlib.Core.List.{List, [], ◌∷◌}
@@ -9,7 +10,7 @@ use borrow.Author.Tests.{ltb-true, le-ltb}
 use Rattle.octets.specs.Bytes.{AllBytes, part}
 use Rattle.octets.proofs.Picks.{pick-false}
 use Rattle.tlv.specs.declared.template.Template.{Template}
-use Rattle.tlv.specs.declared.template.Template.TheVariants.{Definite, Indefinite, Missing}
+use Rattle.tlv.specs.declared.template.Template.TheVariants.{Definite, Indefinite}
 use Rattle.tlv.specs.declared.template.Item.TheVariants.{End}
 use Rattle.tlv.specs.Templates.{template_of, item_at}
 use Rattle.tlv.specs.Promised.{TemplateFits, ItemFits}
@@ -74,11 +75,11 @@ module _ (script : List ℕ) (small : AllBytes script) where
         (λ code. refl)
         refl
 
-  template-pieces : (n : ℕ) → length script ≤ n → (t : Template) → TemplateFits (length script) t → pieces_in n t script ≡ pieces_in (length script) t script
+  template-pieces : (n : ℕ) → length script ≤ n → (t : Option Template) → TemplateFits (length script) t → pieces_in n t script ≡ pieces_in (length script) t script
   unfolding pieces_in TemplateFits
-  template-pieces n h (Definite at end) fits = enough-pieces end n (length script) at (omega arith) (omega arith)
-  template-pieces n h (Indefinite at end) fits = enough-pieces end n (length script) at (omega arith) (omega arith)
-  template-pieces n h Missing fits = refl
+  template-pieces n h (Some (Definite at end)) fits = enough-pieces end n (length script) at (omega arith) (omega arith)
+  template-pieces n h (Some (Indefinite at end)) fits = enough-pieces end n (length script) at (omega arith) (omega arith)
+  template-pieces n h None fits = refl
 
   pub all_pieces_lem : (n : ℕ) → length script ≤ n → pieces_in n (template_of script) script ≡ pieces_of (template_of script) script
   unfolding pieces_of

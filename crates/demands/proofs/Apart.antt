@@ -4,6 +4,7 @@
 -- command to command (`command_goes`, `piece_goes`), so they hold after each that runs (`every_after`) and after the last
 -- (`every_last`), which leaves the card of the run. The session is good there and of the application's root, so that its directory
 -- and its file belong to it. Assumes nothing.
+use Rattle.std.specs.Prelude.{Option, Some, None}
 use Prim.Native.Nat.{ℕ, zero, suc, ◌+◌, ◌≤◌, ◌<◌}
 use mathlib.Core.Path.{◌≡◌, refl, sym, subst, ◌∙◌}
 use mathlib.Core.Bool.{Bool}
@@ -14,7 +15,7 @@ use Rattle.octets.specs.Bytes.{byte, AllBytes}
 use Rattle.octets.proofs.Picks.{on_pick, on_test}
 use Rattle.card.specs.Row.{Card, entry}
 use Rattle.tlv.specs.declared.template.Template.{Template}
-use Rattle.tlv.specs.declared.template.Template.TheVariants.{Definite, Indefinite, Missing}
+use Rattle.tlv.specs.declared.template.Template.TheVariants.{Definite, Indefinite}
 use Rattle.tlv.specs.Templates.{item_at, template_of}
 use Rattle.journal.specs.declared.Memory.TheVariants.{Files, Table}
 use Rattle.journal.specs.Changes.{memory_of, with_journal, with_mark, taken_back}
@@ -125,11 +126,11 @@ module _ (script : List ℕ) (small : AllBytes script) where
       (λ code. (tt, tt))
       tt
 
-  template-small : (n : ℕ) (template : Template) → Every Small (pieces_in n template script)
+  template-small : (n : ℕ) (template : Option Template) → Every Small (pieces_in n template script)
   unfolding pieces_in
-  template-small n (Definite at end) = pieces-small n at end
-  template-small n (Indefinite at end) = pieces-small n at end
-  template-small n Missing = tt
+  template-small n (Some (Definite at end)) = pieces-small n at end
+  template-small n (Some (Indefinite at end)) = pieces-small n at end
+  template-small n None = tt
 
 -- ---- an accepted run
 

@@ -3,6 +3,7 @@
 -- and done one after the other while they go on. Both look at the same place with the same test, so they agree by induction on the
 -- number of rounds: `run_ends` for commands, `pieces_end` for the pieces of a template, where `by_test` and `by_item` compare two
 -- choices way by way. Each command counts one, so the last state counts all that ran (`counted`). Assumes nothing.
+use Rattle.std.specs.Prelude.{Option, Some, None}
 use Prim.Native.Nat.{ℕ, zero, suc, ◌+◌}
 use mathlib.Core.Path.{◌≡◌, refl, ap, ◌∙◌}
 use mathlib.Core.Bool.{Bool, true, false}
@@ -14,7 +15,7 @@ use Rattle.octets.proofs.Picks.{on_test}
 use Rattle.octets.specs.Bytes.{part}
 use Rattle.card.specs.Row.{Card}
 use Rattle.tlv.specs.declared.template.Template.{Template}
-use Rattle.tlv.specs.declared.template.Template.TheVariants.{Definite, Indefinite, Missing}
+use Rattle.tlv.specs.declared.template.Template.TheVariants.{Definite, Indefinite}
 use Rattle.tlv.specs.declared.template.Item.{Item}
 use Rattle.tlv.specs.declared.template.Item.TheVariants.{Capdu, Bad, End}
 use Rattle.tlv.specs.Templates.{item_at}
@@ -106,13 +107,13 @@ unfolding piece_done step_bad
 piece_counts definite domain p (capdu bytes) = counts_one definite domain bytes p
 piece_counts definite domain p (bad_format code) = refl
 
-template_ends : (template : Template) (script : List ℕ) (application domain : ℕ) (card : Card) → expanded.run template script application domain card ≡ last_of (begun application card) (progress_after template script application domain card)
+template_ends : (template : Option Template) (script : List ℕ) (application domain : ℕ) (card : Card) → expanded.run template script application domain card ≡ last_of (begun application card) (progress_after template script application domain card)
 unfolding expanded.run progress_after pieces_of pieces_in is_definite last_of after
-template_ends (Definite at end) script application domain card = pieces_end script domain true end (length script) at (begun application card)
-template_ends (Indefinite at end) script application domain card = pieces_end script domain false end (length script) at (begun application card)
-template_ends Missing script application domain card = refl
+template_ends (Some (Definite at end)) script application domain card = pieces_end script domain true end (length script) at (begun application card)
+template_ends (Some (Indefinite at end)) script application domain card = pieces_end script domain false end (length script) at (begun application card)
+template_ends None script application domain card = refl
 
-pub expanded-runs : (template : Template) (script : List ℕ) (application domain : ℕ) (card : Card) → ExpandedRuns template script application domain card
+pub expanded-runs : (template : Option Template) (script : List ℕ) (application domain : ℕ) (card : Card) → ExpandedRuns template script application domain card
 unfolding progress_after begun started
 expanded-runs template script application domain card =
     let e = template_ends template script application domain card in

@@ -4,6 +4,7 @@
 -- what this one command leaves (`one_only`). The answer is then worked out: three bytes for a compact script; for an expanded one the
 -- only R-APDU, which stands in the answer whether it is kept or is the last (`either_counts`), in the form of the template
 -- (`template-answer`). Assumes nothing.
+use Rattle.std.specs.Prelude.{Option, Some, None}
 use Prim.Native.Nat.{ℕ}
 use mathlib.Core.Path.{◌≡◌, refl, ap, ◌∙◌}
 use mathlib.Core.Bool.{Bool, true, false}
@@ -13,7 +14,7 @@ use Rattle.octets.specs.Choice.{pick}
 use Rattle.octets.specs.Bytes.{bytes2}
 use Rattle.card.specs.Row.{Card}
 use Rattle.tlv.specs.declared.template.Template.{Template}
-use Rattle.tlv.specs.declared.template.Template.TheVariants.{Definite, Indefinite, Missing}
+use Rattle.tlv.specs.declared.template.Template.TheVariants.{Definite, Indefinite}
 use Rattle.tlv.specs.Lengths.{length_bytes}
 use Rattle.tlv.specs.Templates.{template_of}
 use Rattle.journal.specs.Changes.{perform, with_mark}
@@ -112,12 +113,12 @@ module _ (definite : Bool) (domain application : ℕ) (card : Card) (bytes : Lis
     piece_stops = ap word_goes_on piece_fails.0
 
 -- the answer of a template
-template-answer : (template : Template) (p : Progress) (application : ℕ) (c : Card) (response : List ℕ) → p.state ≡ stopped application (with_mark c) → p.kept ++ p.last ≡ hex "23026986"
+template-answer : (template : Option Template) (p : Progress) (application : ℕ) (c : Card) (response : List ℕ) → p.state ≡ stopped application (with_mark c) → p.kept ++ p.last ≡ hex "23026986"
     → accepted p.state (expanded.answer template p) response ≡ one_command c (no_file template) response
 unfolding accepted expanded.answer answer_bytes definite_answer indefinite_answer definite_body count_bytes length_bytes bytes2 one_command no_file stopped started stepped carried_out failed check_word perform hex digit pick
-template-answer (Definite at end) p application c response e f = rw (e, f)
-template-answer (Indefinite at end) p application c response e f = rw (e, f)
-template-answer Missing p application c response e f = rw e
+template-answer (Some (Definite at end)) p application c response e f = rw (e, f)
+template-answer (Some (Indefinite at end)) p application c response e f = rw (e, f)
+template-answer None p application c response e f = rw e
 
 expanded-fresh : (a : Arguments) (c : Card) (bytes : List ℕ) (pieces : List Piece) → number (result_of (running a) c) ≡ 0 → format_of a.format a.script ≡ Expanded
     → pieces_of (template_of a.script) a.script ≡ capdu bytes ∷ pieces

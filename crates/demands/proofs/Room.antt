@@ -2,6 +2,7 @@
 -- Number 4 sees to room for the longest answer of each format (`compact_longest`, `expanded_longest`). A compact answer has three bytes
 -- and no more data than P3 00 reads. An expanded one has at most ten bytes besides its R-APDUs, and these at most 1,004: the 1,000-byte rule holds for those kept while the script goes on, and what
 -- stands last has no data (`step-told`). That is carried through the pieces of a template by induction on the rounds. Assumes nothing.
+use Rattle.std.specs.Prelude.{Option, Some, None}
 use Prim.Native.Nat.{ℕ, zero, suc, ◌+◌, ◌≤◌}
 use mathlib.Core.Path.{◌≡◌, refl, ap, subst, ◌∙◌}
 use mathlib.Core.Bool.{Bool, true, false}
@@ -16,7 +17,7 @@ use Rattle.octets.proofs.Picks.{on_test}
 use Rattle.octets.proofs.Writes.{write-length}
 use Rattle.card.specs.Row.{Card}
 use Rattle.tlv.specs.declared.template.Template.{Template}
-use Rattle.tlv.specs.declared.template.Template.TheVariants.{Definite, Indefinite, Missing}
+use Rattle.tlv.specs.declared.template.Template.TheVariants.{Definite, Indefinite}
 use Rattle.tlv.specs.Templates.{template_of, item_at}
 use Rattle.journal.specs.Promised.{Starts}
 use Rattle.journal.specs.Changes.{with_mark, taken_back}
@@ -111,11 +112,11 @@ module _ (script : List ℕ) (small : AllBytes script) (application domain : ℕ
       let room = run_room script small (taken_back card) domain definite (length script) at end (begun application card) (starts_holds card application starts) (omega arith) (omega arith) in
       omega (arith, room, answer-few definite p.state.step.count (p.kept ++ p.last), length-append p.kept p.last)
 
-  expanded-few : (template : Template) → length (expanded.answer template (expanded.run template script application domain card)) ≤ expanded.room_to_answer
+  expanded-few : (template : Option Template) → length (expanded.answer template (expanded.run template script application domain card)) ≤ expanded.room_to_answer
   unfolding expanded.answer expanded.run
-  expanded-few (Definite at end) = value-few true at end
-  expanded-few (Indefinite at end) = value-few false at end
-  expanded-few Missing = omega arith
+  expanded-few (Some (Definite at end)) = value-few true at end
+  expanded-few (Some (Indefinite at end)) = value-few false at end
+  expanded-few None = omega arith
 
   compact-few : let st = compact.run script application domain card in length (compact.answer st.step st.card.files) ≤ 3 + most_read Compact
   compact-few =

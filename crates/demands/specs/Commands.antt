@@ -1,9 +1,9 @@
 -- A script as the list of its commands, and what is there after each command that runs.
-use Rattle.std.specs.Prelude.{ℕ, zero, suc, ◌+◌, Bool, true, false, List, [], ◌∷◌, ltb, length}
+use Rattle.std.specs.Prelude.{ℕ, zero, suc, ◌+◌, Bool, true, false, List, [], ◌∷◌, ltb, length, Option, Some, None}
 use Rattle.octets.specs.Bytes.{part}
 use Rattle.card.specs.Row.{Card}
 use Rattle.tlv.specs.declared.template.Template.{Template}
-use Rattle.tlv.specs.declared.template.Template.TheVariants.{Definite, Indefinite, Missing}
+use Rattle.tlv.specs.declared.template.Template.TheVariants.{Definite, Indefinite}
 use Rattle.tlv.specs.declared.template.Item.TheVariants.{Capdu, Bad, End}
 use Rattle.tlv.specs.Templates.{item_at}
 use Rattle.command.specs.declared.Command.{Command}
@@ -77,19 +77,19 @@ pieces_from (suc n) script at end =
       | End ↦ []
     ]
 
-unfoldable pub pieces_in : ℕ → Template → List ℕ → List Piece
-pieces_in n (Definite at end) script = pieces_from n script at end
-pieces_in n (Indefinite at end) script = pieces_from n script at end
-pieces_in n Missing script = []
+unfoldable pub pieces_in : ℕ → Option Template → List ℕ → List Piece
+pieces_in n (Some (Definite at end)) script = pieces_from n script at end
+pieces_in n (Some (Indefinite at end)) script = pieces_from n script at end
+pieces_in n None script = []
 
 -- all of them: each takes a byte or more
-unfoldable pub pieces_of : Template → List ℕ → List Piece
+unfoldable pub pieces_of : Option Template → List ℕ → List Piece
 pieces_of template script = pieces_in (length script) template script
 
-unfoldable pub is_definite : Template → Bool
-is_definite (Definite at end) = true
-is_definite (Indefinite at end) = false
-is_definite Missing = false
+unfoldable pub is_definite : Option Template → Bool
+is_definite (Some (Definite at end)) = true
+is_definite (Some (Indefinite at end)) = false
+is_definite None = false
 
 -- a C-APDU is run, a bad format counts
 unfoldable pub piece_done : Bool → ℕ → Progress → Piece → Progress
@@ -100,6 +100,6 @@ unfoldable pub piece_goes_on : Progress → Bool
 piece_goes_on p = word_goes_on p.state
 
 -- how far a script is after each piece of its template that runs
-unfoldable pub progress_after : Template → List ℕ → ℕ → ℕ → Card → List Progress
+unfoldable pub progress_after : Option Template → List ℕ → ℕ → ℕ → Card → List Progress
 progress_after template script application domain card =
     after (piece_done (is_definite template) domain) piece_goes_on (begun application card) (pieces_of template script)

@@ -4,14 +4,14 @@
 -- What a call gives is said in `Calls`, and the contracts of the three calls cite it for the answer and for every byte of each lent
 -- memory. Here stands what it comes to: detection, the commands that run and their count, the fresh start, that an error changes
 -- nothing, the marked cases, the cyclic law.
-use Rattle.std.specs.Prelude.{ℕ, ◌+◌, ◌-◌, ◌*◌, ◌%◌, ◌≤◌, ◌<◌, Bool, List, [], ◌∷◌, ◌≡◌, length}
+use Rattle.std.specs.Prelude.{ℕ, ◌+◌, ◌-◌, ◌*◌, ◌%◌, ◌≤◌, ◌<◌, Bool, List, [], ◌∷◌, ◌≡◌, length, Option, Some, None}
 use Rattle.octets.specs.Bytes.{AllBytes, overwrite, zeros}
 use Rattle.card.specs.declared.Row.{Row}
 use Rattle.card.specs.Row.{Card}
 use Rattle.card.specs.Sound.{record_count}
 use Rattle.card.specs.Records.{cyclic_place, record_offset}
 use Rattle.tlv.specs.declared.template.Template.{Template}
-use Rattle.tlv.specs.declared.template.Template.TheVariants.{Definite, Indefinite, Missing}
+use Rattle.tlv.specs.declared.template.Template.TheVariants.{Definite, Indefinite}
 use Rattle.tlv.specs.Templates.{template_of}
 use Rattle.journal.specs.Changes.{with_mark}
 use Rattle.session.specs.Session as session
@@ -50,7 +50,7 @@ pub record CompactRuns (script : List ℕ) (application domain : ℕ) (card : Ca
       (compact.run script application domain card).step.count ≡ length (states_after script application domain card)
 
 -- and so does an expanded one
-pub record ExpandedRuns (template : Template) (script : List ℕ) (application domain : ℕ) (card : Card) : Type 0 where
+pub record ExpandedRuns (template : Option Template) (script : List ℕ) (application domain : ℕ) (card : Card) : Type 0 where
   pub progress :
       expanded.run template script application domain card
       ≡ last_of (begun application card) (progress_after template script application domain card)
@@ -77,10 +77,10 @@ one_command c answer response =
     gives (record { number = 0; length = length answer; count = 1 }) (with_mark c) (overwrite response 0 answer)
 
 -- the answer 6986 to the only command of a template
-unfoldable pub no_file : Template → List ℕ
-no_file (Definite at end) = hex "AB0780010123026986"
-no_file (Indefinite at end) = hex "AF80230269860000"
-no_file Missing = []
+unfoldable pub no_file : Option Template → List ℕ
+no_file (Some (Definite at end)) = hex "AB0780010123026986"
+no_file (Some (Indefinite at end)) = hex "AF80230269860000"
+no_file None = []
 
 -- an accepted run: whatever an earlier one selected, its script starts from its root, with no file, no record number and nothing
 -- waiting among 255 bytes of zero; and a first command that works on a file ends it with 6986
@@ -169,7 +169,7 @@ pub record Demand2 : Type 0 where
   -- the same commands run, with the same count and stopping place
   pub compact : (script : List ℕ) (application domain : ℕ) (card : Card) → CompactRuns script application domain card
   pub expanded :
-      (template : Template) (script : List ℕ) (application domain : ℕ) (card : Card)
+      (template : Option Template) (script : List ℕ) (application domain : ℕ) (card : Card)
       → ExpandedRuns template script application domain card
   -- and these are all that the script has: no larger bound reads one more
   pub all_commands : (script : List ℕ) (n : ℕ) → length script ≤ n → commands_from n script 0 ≡ commands_of script

@@ -14,6 +14,7 @@ use borrow.Author.Tests.{leb-true, ltb-true}
 use Rattle.octets.proofs.Picks.{and_left, and_right}
 use Rattle.card.specs.Row.{Card, entries, row_of}
 use Rattle.card.specs.Tree.{is_root}
+use Rattle.std.specs.Prelude.{Some}
 use Rattle.tlv.specs.declared.template.Template.TheVariants.{Definite, Indefinite}
 use Rattle.tlv.specs.Templates.{template_of}
 use Rattle.journal.specs.Entries.{scripts_on_trial, entry_bytes}
@@ -26,8 +27,8 @@ use Rattle.journal.proofs.Kept.{mark-sound}
 use Rattle.command.specs.declared.Format.{Format}
 use Rattle.command.specs.declared.Format.TheVariants.{Compact, Expanded}
 use Rattle.step.specs.Limits.{longest_script}
-use Rattle.engine.specs.Numbers.{Arguments, format_of, format_known, script_fits, first_given, run_refusals}
-use Rattle.engine.specs.Calls.{Result, gives, numbered, unless_refused, run_value, run_script, run}
+use Rattle.engine.specs.Numbers.{numbered, Arguments, format_of, format_known, script_fits, first_given, run_refusals}
+use Rattle.engine.specs.Calls.{Result, gives, unless_refused, run_value, run_script, run}
 use Rattle.engine.specs.Promised.{RunScriptAsks}
 use Rattle.engine.proofs.RunNumbers.{RunMet, is_met}
 use Rattle.engine.proofs.Refusals.{arguments_root}
@@ -74,7 +75,7 @@ module _ (c : Card) (a : Arguments) (none : first_given (run_refusals c a) ≡ 0
   marked-starts = record { sound = marked-sound; marked = marked_trial; inside = inside; root = root }
 
   -- the script of its format can be run
-  pub may_start : {f : Format} → format_of a.format a.script ≡ f → RunScriptAsks f c a.application a.script a.response
+  pub may_start : {f : Format} → format_of a.format a.script ≡ f → RunScriptAsks f c a
   may_start e =
       record {
         room = mark-room;
@@ -89,23 +90,17 @@ module _ (c : Card) (a : Arguments) (none : first_given (run_refusals c a) ≡ 0
   unfolding run
   done e = e ∙ sym (given-done _ c a.response _ none)
 
-  module _ {domain : ℕ} (same : domain ≡ a.domain) where
-    abbrev own : ℕ → Arguments
-    own format = record { application = a.application; domain = domain; format = format; script = a.script; response = a.response }
+  expanded : format_of a.format a.script ≡ Expanded → run_script Expanded a (with_mark c) ≡ run a c
+  expanded f = done (rw f)
 
-    expanded : format_of a.format a.script ≡ Expanded → run_script Expanded (own 1) (with_mark c) ≡ run a c
-    unfolding run_script
-    expanded f = done (rw (same, f))
+  pub compact-run : format_of a.format a.script ≡ Compact → run_script Compact a (with_mark c) ≡ run a c
+  compact-run f = done (rw f)
 
-    pub compact-run : format_of a.format a.script ≡ Compact → run_script Compact (own 0) (with_mark c) ≡ run a c
-    unfolding run_script
-    compact-run f = done (rw (same, f))
+  pub definite-run : {at end : ℕ} → format_of a.format a.script ≡ Expanded → template_of a.script ≡ Some (Definite at end) → run_value true at end a (with_mark c) ≡ run a c
+  definite-run f t = definite-script a _ _ _ t ∙ expanded f
 
-    pub definite-run : {at end : ℕ} → format_of a.format a.script ≡ Expanded → template_of a.script ≡ Definite at end → run_value true at end (own 1) (with_mark c) ≡ run a c
-    definite-run f t = definite-script (own 1) _ _ _ t ∙ expanded f
-
-    pub indefinite-run : {at end : ℕ} → format_of a.format a.script ≡ Expanded → template_of a.script ≡ Indefinite at end → run_value false at end (own 1) (with_mark c) ≡ run a c
-    indefinite-run f t = indefinite-script (own 1) _ _ _ t ∙ expanded f
+  pub indefinite-run : {at end : ℕ} → format_of a.format a.script ≡ Expanded → template_of a.script ≡ Some (Indefinite at end) → run_value false at end a (with_mark c) ≡ run a c
+  indefinite-run f t = indefinite-script a _ _ _ t ∙ expanded f
 
 -- a number that is not 0 refuses the run
 pub refused-run : (c : Card) (a : Arguments) (n : ℕ) → n ≡ first_given (run_refusals c a) → (n ≡ 0 → ⊥) → gives (numbered n) c a.response ≡ run a c

@@ -10,9 +10,8 @@ use Rattle.card.specs.Row.{Card}
 use Rattle.journal.specs.Entries.{scripts_on_trial}
 use Rattle.journal.specs.Sound.{sound_card}
 use Rattle.journal.specs.Changes.{taken_back, confirmed}
-use Rattle.engine.specs.declared.Answer.{Answer}
-use Rattle.engine.specs.Numbers.{first_given, not_sound, take_back_refusals, confirm_refusals}
-use Rattle.engine.specs.Calls.{Result, gives, numbered, unless_refused, take_back, confirm}
+use Rattle.engine.specs.Numbers.{Answer, numbered, first_given, not_sound, take_back_refusals, confirm_refusals}
+use Rattle.engine.specs.Calls.{Result, gives, unless_refused, take_back, confirm}
 use Rattle.engine.specs.Promised.{AnswerFits}
 
 -- a call gives its number alone where one is given, and else what it does
@@ -47,7 +46,6 @@ module _ (c : Card) where
   unfolding confirm unless_refused first_given confirm_refusals not_sound pick
   confirm-done sound = rw sound
 
--- a number alone, with what it stands for, and that it is small
-pub answers_number : (n : ℕ) → n < 256 → {a : Answer} → a ≡ numbered n → (card : Card) (response : List ℕ) {r : Result} → gives (numbered n) card response ≡ r
-    → (gives a card response ≡ r) × AnswerFits a
-answers_number n h e card response is = (ap (λ (a : Answer). gives a card response) e ∙ is, subst AnswerFits (sym e) (h, omega arith, omega arith))
+-- a number alone is small
+pub number-fits : (n : ℕ) → n < 256 → AnswerFits (numbered n)
+number-fits n h = (h, omega arith, omega arith)

@@ -14,6 +14,7 @@ use lib.ListN.{length, take}
 use lib.Seq.{take-add}
 use Rattle.octets.specs.Bytes.{AllBytes, overwrite}
 use Rattle.card.specs.Row.{Card, lent}
+use Rattle.std.specs.Prelude.{Option, Some}
 use Rattle.tlv.specs.declared.template.Template.{Template}
 use Rattle.tlv.specs.declared.template.Template.TheVariants.{Definite, Indefinite}
 use Rattle.tlv.specs.Templates.{template_of}
@@ -113,15 +114,15 @@ value-gives definite at end a card g after out response n e r l =
 
 -- the value of a template of either form
 module _ (a : Arguments) (card : Card) where
-  abbrev with_template : Template → Result
+  abbrev with_template : Option Template → Result
   with_template t =
       let p : Progress = expanded.run t a.script a.application a.domain card in
       accepted p.state (expanded.answer t p) a.response
 
-  pub definite-script : (at end : ℕ) → template_of a.script ≡ Definite at end → run_value true at end a card ≡ run_script Expanded a card
+  pub definite-script : (at end : ℕ) → template_of a.script ≡ Some (Definite at end) → run_value true at end a card ≡ run_script Expanded a card
   unfolding run_value run_script expanded.run expanded.answer
   definite-script at end e = ap with_template (sym e)
 
-  pub indefinite-script : (at end : ℕ) → template_of a.script ≡ Indefinite at end → run_value false at end a card ≡ run_script Expanded a card
+  pub indefinite-script : (at end : ℕ) → template_of a.script ≡ Some (Indefinite at end) → run_value false at end a card ≡ run_script Expanded a card
   unfolding run_value run_script expanded.run expanded.answer
   indefinite-script at end e = ap with_template (sym e)

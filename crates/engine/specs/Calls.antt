@@ -1,6 +1,6 @@
 -- "One library runs a remote file management script against a lent card, takes the newest script back, or confirms all.": the three
 -- calls, as functions from card and arguments to answer, card and response memory.
-use Rattle.std.specs.Prelude.{ℕ, ◌<◌, Bool, true, false, List, [], ◌++◌, length, eqb}
+use Rattle.std.specs.Prelude.{ℕ, ◌<◌, Option, Bool, true, false, List, [], ◌++◌, length, eqb}
 use Rattle.octets.specs.Bytes.{overwrite}
 use Rattle.card.specs.Row.{Card}
 use Rattle.tlv.specs.declared.template.Template.{Template}
@@ -12,8 +12,8 @@ use Rattle.step.specs.Steps.{State}
 use Rattle.compact.specs.Compact as compact
 use Rattle.expanded.specs.Expanded as expanded
 use Rattle.expanded.specs.Expanded.{Progress}
-use Rattle.engine.specs.declared.Answer.{Answer}
-use Rattle.engine.specs.Numbers.{Arguments, format_of, first_given, run_refusals, take_back_refusals, confirm_refusals}
+use Rattle.engine.specs.declared.Call.{Call}
+use Rattle.engine.specs.Numbers.{Answer, numbered, Arguments, format_of, first_given, run_refusals, take_back_refusals, confirm_refusals}
 
 -- what a call gives: its answer, the card after it, and the response memory after it
 pub record Result : Type 0 where
@@ -24,9 +24,16 @@ pub record Result : Type 0 where
 abbrev pub gives : Answer → Card → List ℕ → Result
 gives answer card response = record { answer = answer; card = card; response = response }
 
--- a number alone: length 0 and count 0
-abbrev pub numbered : ℕ → Answer
-numbered number = record { number = number; length = 0; count = 0 }
+-- what a run is called with, its script and a response memory
+abbrev pub arguments_of : Call → List ℕ → List ℕ → Arguments
+arguments_of call script response =
+    record {
+      application = call.application;
+      domain = call.domain;
+      format = call.format;
+      script = script;
+      response = response;
+    }
 
 -- an accepted run: "Response memory after the answer's last byte keeps its content."
 unfoldable pub accepted : State → List ℕ → List ℕ → Result
@@ -55,7 +62,7 @@ run_script Compact a c =
     let st : State = compact.run a.script a.application a.domain c in
     accepted st (compact.answer st.step st.card.files) a.response
 run_script Expanded a c =
-    let template : Template = template_of a.script in
+    let template : Option Template = template_of a.script in
     let p : Progress = expanded.run template a.script a.application a.domain c in
     accepted p.state (expanded.answer template p) a.response
 

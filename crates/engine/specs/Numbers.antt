@@ -1,18 +1,45 @@
 -- "Call numbers": "Checked in this order."
-use Rattle.std.specs.Prelude.{ℕ, Bool, true, false, not, ◌&&◌, ◌||◌, List, [], ◌∷◌, length, leb, ltb, eqb}
+use Rattle.std.specs.Prelude.{ℕ, Option, Some, None, Result, Ok, Err, Bool, true, false, not, ◌&&◌, ◌||◌, List, [], ◌∷◌, length, leb, ltb, eqb}
 use Rattle.octets.specs.Choice.{pick}
 use Rattle.octets.specs.Bytes.{byte}
 use Rattle.card.specs.Row.{Card, entries, row_of, is_adf}
 use Rattle.tlv.specs.declared.template.Template.{Template}
-use Rattle.tlv.specs.declared.template.Template.TheVariants.{Definite, Indefinite, Missing}
 use Rattle.tlv.specs.Templates.{template_of}
 use Rattle.journal.specs.Entries.{scripts_on_trial}
 use Rattle.journal.specs.Sound.{mark_fits, sound_card}
 use Rattle.command.specs.declared.Format.{Format}
 use Rattle.command.specs.declared.Format.TheVariants.{Compact, Expanded}
 use Rattle.step.specs.Limits.{longest_script}
+use Rattle.engine.specs.declared.Done.{Done}
+use Rattle.engine.specs.declared.Refused.{Refused}
+use Rattle.engine.specs.declared.Refused.TheVariants.{NotSound, UnknownArgument, ScriptLength, ResponseShort, JournalFull, NoTemplate, NothingOnTrial}
 use Rattle.engine.specs.declared.numbers.Start.{Start}
 use Rattle.engine.specs.declared.numbers.Start.TheVariants as starts
+
+-- what a call answers: its number, the length of its answer and the count of commands
+pub record Answer : Type 0 where
+  pub number : ℕ
+  pub length : ℕ
+  pub count : ℕ
+
+-- a number alone: length 0 and count 0
+abbrev pub numbered : ℕ → Answer
+numbered number = record { number = number; length = 0; count = 0 }
+
+-- "Call numbers": the number of a refusal
+abbrev pub number_of : Refused → ℕ
+number_of NotSound = 1
+number_of UnknownArgument = 2
+number_of ScriptLength = 3
+number_of ResponseShort = 4
+number_of JournalFull = 5
+number_of NoTemplate = 6
+number_of NothingOnTrial = 7
+
+-- "this paper's number and values for each of the enum's cases": 0 with the length and the count, or the number of a refusal alone
+abbrev pub answer_of : Result Done Refused → Answer
+answer_of (Ok done) = record { number = 0; length = done.length; count = done.count }
+answer_of (Err e) = numbered (number_of e)
 
 -- what a run is called with besides the card
 pub record Arguments : Type 0 where
@@ -60,10 +87,9 @@ least_response Compact = 1024
 least_response Expanded = 1024
 
 -- whether a script has no template
-unfoldable pub is_missing : Template → Bool
-is_missing (Definite at end) = false
-is_missing (Indefinite at end) = false
-is_missing Missing = true
+unfoldable pub is_missing : Option Template → Bool
+is_missing (Some template) = false
+is_missing None = true
 
 -- "expanded, and no template as below"; "6 also applies to a script found to be expanded."
 unfoldable pub template_fits : Format → List ℕ → Bool
@@ -90,22 +116,26 @@ run_refusals c a =
     ∷ record { number = 6; given = not (template_fits (format_of a.format a.script) a.script) }
     ∷ []
 
--- where the value of a template lies, and number 6 without one
-unfoldable pub template_start : Template → Start
-template_start (Definite at end) = starts.Definite at end
-template_start (Indefinite at end) = starts.Indefinite at end
-template_start Missing = starts.Refused 6
+-- the template that a script starts with, and number 6 without one
+unfoldable pub template_start : Option Template → Result Start ℕ
+template_start (Some template) = Ok (starts.Expanded template)
+template_start None = Err 6
 
 -- how a script of a format starts
-unfoldable pub script_start : Format → List ℕ → Start
-script_start Compact script = starts.Compact
+unfoldable pub script_start : Format → List ℕ → Result Start ℕ
+script_start Compact script = Ok starts.Compact
 script_start Expanded script = template_start (template_of script)
 
--- how a run starts: with the number that is given, and where none is, with its script
-unfoldable pub start_of : Card → Arguments → Start
+-- how a run starts: with its script, and where a number is given, with that
+unfoldable pub start_of : Card → Arguments → Result Start ℕ
 start_of c a =
     let number : ℕ = first_given (run_refusals c a) in
-    pick (eqb number 0) (script_start (format_of a.format a.script) a.script) (starts.Refused number)
+    pick (eqb number 0) (script_start (format_of a.format a.script) a.script) (Err number)
+
+-- a start or why there is none, with the number of that
+abbrev pub by_number : Result Start Refused → Result Start ℕ
+by_number (Ok start) = Ok start
+by_number (Err e) = Err (number_of e)
 
 -- "a take-back 1 and 7"; 7: "take-back with no script on trial"
 unfoldable pub take_back_refusals : Card → List Refusal

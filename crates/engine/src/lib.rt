@@ -4,117 +4,119 @@
 mod numbers;
 mod scripts;
 
-ghost use Rattle.std.specs.Prelude.{◌≡◌, []};
+ghost use Rattle.std.specs.Prelude.{◌≡◌, ◌<◌, []};
+ghost use Rattle.card.specs.Lent.{StaysLent, held};
 ghost use Rattle.card.specs.Row.{lent};
+ghost use Rattle.engine.specs.Numbers.{answer_of, number_of};
 ghost use Rattle.engine.specs.Calls as spec;
 ghost use Rattle.engine.specs.Promised.{AnswerFits};
 
+use card::lent::LentCard;
 use numbers::{Start, start_of};
 use scripts::{run_compact, run_value};
+use tlv::template::Template;
 
 // The bytes that a script has at most.
 pub const LONGEST_SCRIPT: usize = 1024;
 
-// What a call answers: its number, the length of the answer, and the count of commands.
-#[derive(Clone, Copy)]
-pub struct Answer {
-    pub number: usize,
+// What a run is called with beside its script: the entry number of an application, the access domain, and the format number.
+#[derive(Clone, Copy, Debug, PartialEq, Eq)]
+pub struct Call {
+    pub application: usize,
+    pub domain: u8,
+    pub format: u8,
+}
+
+// What an accepted call answers: the length of the answer, and the count of commands; both are 0 but for a run.
+#[derive(Clone, Copy, Debug, PartialEq, Eq)]
+pub struct Done {
     pub length: usize,
     pub count: usize,
 }
 
-// Returns the answer of a number alone: length 0 and count 0.
-fn numbered(number: usize) -> Answer
-    ensures { result ≡ spec.numbered number }
-{
-    Answer {
-        number,
-        length: 0,
-        count: 0,
+// Why a call is refused, in the order of the "Call numbers": "A run meets 1-6, a take-back 1 and 7, a confirmation 1."
+#[derive(Clone, Copy, Debug, PartialEq, Eq)]
+pub enum Refused {
+    NotSound,
+    UnknownArgument,
+    ScriptLength,
+    ResponseShort,
+    JournalFull,
+    NoTemplate,
+    NothingOnTrial,
+}
+
+impl Refused {
+    // Returns the call number that stands for it.
+    pub fn number(self) -> usize
+        ensures { (result ≡ number_of self) × (result < 256) }
+    {
+        match self {
+            Refused::NotSound => 1,
+            Refused::UnknownArgument => 2,
+            Refused::ScriptLength => 3,
+            Refused::ResponseShort => 4,
+            Refused::JournalFull => 5,
+            Refused::NoTemplate => 6,
+            Refused::NothingOnTrial => 7,
+        }
     }
 }
 
-// Runs a script that no number refuses, and writes its answer to the front of `response`. Returns the number, the answer's length and
-// the count of commands.
+// Runs a script where no number refuses it, and writes its answer to the front of `response`. Returns the answer's length and the count of
+// commands.
 pub fn run(
-    application: usize,
-    domain: u8,
-    format: u8,
+    call: Call,
     script: &[u8],
     response: &mut [u8],
-    table: &mut [u8],
-    files: &mut [u8],
-    journal: &mut [u8],
-) -> Answer
-    ensures { (spec.gives result (lent table.new files.new journal.new) response.new
-        ≡ spec.run (record { application = application; domain = domain; format = format; script = script.now; response = response.old })
-        (lent table.old files.old journal.old)) × AnswerFits result }
+    card: &mut LentCard<'_>,
+) -> Result<Done, Refused>
+    ensures ran { (spec.gives (answer_of result) (held card.new) response.new ≡ spec.run (spec.arguments_of call script.now response.old) (held card.old))
+        × AnswerFits (answer_of result) }
+    ensures stays { StaysLent card.old card.new }
 {
-    let wide = octets::wide(domain);
-    match start_of(
-        application,
-        domain,
-        format,
-        script,
-        response.len(),
-        table,
-        files,
-        journal,
-    ) {
-        Start::Refused(number) => numbered(number),
-        Start::Compact => run_compact(application, wide, script, response, table, files, journal),
-        Start::Definite(at, end) => {
-            run_value(
-                true,
-                at,
-                end,
-                application,
-                wide,
-                script,
-                response,
-                table,
-                files,
-                journal,
-            )
+    match start_of(call, script, response.len(), card)? {
+        Start::Compact => Ok(run_compact(call, script, response, card)),
+        Start::Expanded(Template::Definite(at, end)) => {
+            Ok(run_value(true, at, end, call, script, response, card))
         }
-        Start::Indefinite(at, end) => {
-            run_value(
-                false,
-                at,
-                end,
-                application,
-                wide,
-                script,
-                response,
-                table,
-                files,
-                journal,
-            )
+        Start::Expanded(Template::Indefinite(at, end)) => {
+            Ok(run_value(false, at, end, call, script, response, card))
         }
     }
 }
 
-// Takes the newest script back where no number refuses it. Returns the number, with length 0 and count 0.
-pub fn take_back(table: &mut [u8], files: &mut [u8], journal: &mut [u8]) -> Answer
-    ensures { (spec.gives result (lent table.new files.new journal.new) [] ≡ spec.take_back (lent table.old files.old journal.old)) × AnswerFits result }
+// Takes the newest script back where no number refuses it.
+pub fn take_back(card: &mut LentCard<'_>) -> Result<Done, Refused>
+    ensures taken_back { (spec.gives (answer_of result) (held card.new) [] ≡ spec.take_back (held card.old)) × AnswerFits (answer_of result) }
+    ensures stays { StaysLent card.old card.new }
 {
+    let table = &mut *card.table;
+    let files = &mut *card.files;
+    let journal = &mut *card.journal;
     if !journal::sound::sound_card(table, files, journal) {
-        return numbered(1);
+        return Err(Refused::NotSound);
     }
     if journal::read::head_of(journal).scripts == 0 {
-        return numbered(7);
+        return Err(Refused::NothingOnTrial);
     }
-    journal::back::take_back(table, files, journal);
-    numbered(0)
+    journal::back::take_back(card);
+    Ok(Done {
+        length: 0,
+        count: 0,
+    })
 }
 
-// Confirms all scripts where no number refuses it. Returns the number, with length 0 and count 0.
-pub fn confirm(table: &[u8], files: &[u8], journal: &mut [u8]) -> Answer
-    ensures { (spec.gives result (lent table.now files.now journal.new) [] ≡ spec.confirm (lent table.now files.now journal.old)) × AnswerFits result }
+// Confirms all scripts where no number refuses it.
+pub fn confirm(table: &[u8], files: &[u8], journal: &mut [u8]) -> Result<Done, Refused>
+    ensures { (spec.gives (answer_of result) (lent table.now files.now journal.new) [] ≡ spec.confirm (lent table.now files.now journal.old)) × AnswerFits (answer_of result) }
 {
     if !journal::sound::sound_card(table, files, journal) {
-        return numbered(1);
+        return Err(Refused::NotSound);
     }
     journal::back::confirm(journal);
-    numbered(0)
+    Ok(Done {
+        length: 0,
+        count: 0,
+    })
 }

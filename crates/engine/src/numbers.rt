@@ -1,22 +1,23 @@
-// How a run starts: the number that refuses it, in the paper's order, or the script of its format.
+// How a run starts: what refuses it, in the paper's order, or the script of its format.
 ghost use Rattle.std.specs.Prelude.{◌≡◌, ◌&&◌, ◌||◌, List, ℕ, ◌≤◌, ltb, eqb, length};
-ghost use Rattle.card.specs.Row.{lent, entries, row_of};
+ghost use Rattle.card.specs.Lent.{held};
+ghost use Rattle.card.specs.Row.{entries, row_of};
 ghost use Rattle.card.specs.Tree.{is_root};
 ghost use Rattle.card.specs.Promised.{ParentsSmaller};
+ghost use Rattle.engine.specs.Calls.{arguments_of};
 ghost use Rattle.engine.specs.Numbers as spec;
 ghost use Rattle.engine.specs.Promised.{StartFits};
 
-use crate::LONGEST_SCRIPT;
+use crate::{Call, LONGEST_SCRIPT, Refused};
+use card::lent::LentCard;
 use command::Format;
 use tlv::template::{Template, template_of};
 
-// How a run starts: the number that refuses it; a compact script; the place and the end of the value of an AA or an AE template.
+// How a run starts: with a compact script, or with the template of an expanded one.
 #[derive(Clone, Copy)]
 pub enum Start {
-    Refused(usize),
     Compact,
-    Definite(usize, usize),
-    Indefinite(usize, usize),
+    Expanded(Template),
 }
 
 // Returns the format that a script is found to have: expanded where it starts with AA or AE.
@@ -66,11 +67,13 @@ fn is_application(table: &[u8], application: usize) -> bool
 }
 
 // Whether format, application and access domain are known.
-fn arguments_fit(table: &[u8], application: usize, domain: u8, format: u8) -> bool
+fn arguments_fit(table: &[u8], call: Call) -> bool
     requires { ParentsSmaller table.now }
-    ensures { result ≡ (spec.format_known format && ((ltb application (entries table.now) && is_root (row_of table.now application)) && (eqb domain 0x00 || eqb domain 0xFF))) }
+    ensures { result ≡ (spec.format_known call.format && ((ltb call.application (entries table.now) && is_root (row_of table.now call.application)) && (eqb call.domain 0x00 || eqb call.domain 0xFF))) }
 {
-    (format <= 2) & (is_application(table, application) & ((domain == 0x00) | (domain == 0xFF)))
+    (call.format <= 2)
+        & (is_application(table, call.application)
+            & ((call.domain == 0x00) | (call.domain == 0xFF)))
 }
 
 // Whether a script has 1 to 1,024 bytes.
@@ -80,50 +83,45 @@ fn script_fits(script: &[u8]) -> bool
     (1 <= script.len()) & (script.len() <= LONGEST_SCRIPT)
 }
 
-// Returns how a script of a format starts where its template alone can refuse it.
-fn script_start(format: Format, script: &[u8]) -> Start
-    ensures { (result ≡ spec.script_start format script.now) × StartFits (length script.now) result }
+// Returns how a script of a format starts; its template alone can refuse it.
+fn script_start(format: Format, script: &[u8]) -> Result<Start, Refused>
+    ensures { (spec.by_number result ≡ spec.script_start format script.now) × StartFits (length script.now) result }
 {
     match format {
-        Format::Compact => Start::Compact,
+        Format::Compact => Ok(Start::Compact),
         Format::Expanded => {
-            match template_of(script) {
-                Template::Definite(at, end) => Start::Definite(at, end),
-                Template::Indefinite(at, end) => Start::Indefinite(at, end),
-                Template::Missing => Start::Refused(6),
-            }
+            let Some(template) = template_of(script) else {
+                return Err(Refused::NoTemplate);
+            };
+            Ok(Start::Expanded(template))
         }
     }
 }
 
 // Returns how a run starts whose response memory has `room` bytes.
 pub fn start_of(
-    application: usize,
-    domain: u8,
-    format: u8,
+    call: Call,
     script: &[u8],
     room: usize,
-    table: &[u8],
-    files: &[u8],
-    journal: &[u8],
-) -> Start
-    ensures { ((response : List ℕ) → length response ≡ room → result ≡ spec.start_of (lent table.now files.now journal.now) (record { application = application; domain = domain; format = format; script = script.now; response = response })) × StartFits (length script.now) result }
+    card: &LentCard<'_>,
+) -> Result<Start, Refused>
+    ensures { ((response : List ℕ) → length response ≡ room → spec.by_number result ≡ spec.start_of (held card.now) (arguments_of call script.now response)) × StartFits (length script.now) result }
 {
-    if !journal::sound::sound_card(table, files, journal) {
-        return Start::Refused(1);
+    if !journal::sound::sound_card(card.table, card.files, card.journal) {
+        return Err(Refused::NotSound);
     }
-    if !arguments_fit(table, application, domain, format) {
-        return Start::Refused(2);
+    if !arguments_fit(card.table, call) {
+        return Err(Refused::UnknownArgument);
     }
     if !script_fits(script) {
-        return Start::Refused(3);
+        return Err(Refused::ScriptLength);
     }
-    let form = format_of(format, script);
+    let form = format_of(call.format, script);
     if room < least_response(form) {
-        return Start::Refused(4);
+        return Err(Refused::ResponseShort);
     }
-    if !journal::read::mark_fits(journal) {
-        return Start::Refused(5);
+    if !journal::read::mark_fits(card.journal) {
+        return Err(Refused::JournalFull);
     }
     script_start(form, script)
 }

@@ -1,6 +1,7 @@
 -- Expanded: the template of a script that was built runs to the script's end, and its pieces are the list's C-APDUs.
 -- Pieces behind a prefix are those without it (`pieces-behind`), so the value is read from its front: the first piece is the first operation's
 -- C-APDU, whose length was written and is read again (`item_here`), and what is behind it is the value of the rest. Assumes nothing.
+use Rattle.std.specs.Prelude.{Option, Some}
 use Prim.Native.Nat.{ℕ, zero, suc, ◌+◌, ◌≤◌, ◌<◌}
 use mathlib.Core.Path.{◌≡◌, refl, sym, ap, ◌∙◌}
 use mathlib.Core.List.{List, [], ◌∷◌, ◌++◌, append_assoc}
@@ -88,13 +89,13 @@ module _ (value : List ℕ) (small : length value < 65536) where
       (yes _ _ refl (found-value end least room ∙ ap (λ (l : Length). value_at l (1 + end)) (sym (length-here 0x22 rest end (omega arith))))))
 
   -- a template
-  definite-here : (end : ℕ) → end ≡ 1 + (length_size value + length value) → definite (length_at (templated value) 1 end) end ≡ Definite (1 + length_size value) end
+  definite-here : (end : ℕ) → end ≡ 1 + (length_size value + length value) → definite (length_at (templated value) 1 end) end ≡ Some (Definite (1 + length_size value) end)
   unfolding templated definite
   definite-here end e =
       rw (e, length-here 0xAA value (length_size value + length value) (omega arith))
       (sym (eq_yes (1 + length_size value + length value) (1 + (length_size value + length value)) _ (omega arith) refl))
 
-  template-is : template_of (templated value) ≡ Definite (1 + length_size value) (length (templated value))
+  template-is : template_of (templated value) ≡ Some (Definite (1 + length_size value) (length (templated value)))
   unfolding template_of templated pick
   template-is = definite-here (length (templated value)) (tagged_length value 0xAA)
 
@@ -175,7 +176,7 @@ module _ («data» : List ℕ) where
     unfolding templated
     value-small = let l = tagged_length value 0xAA in omega arith
 
-    pub template-runs : template_of (templated value) ≡ Definite (1 + length_size value) (length (templated value))
+    pub template-runs : template_of (templated value) ≡ Some (Definite (1 + length_size value) (length (templated value)))
     template-runs = template-is value value-small
 
     value-pieces : pieces_from (length (templated value)) (templated value) (1 + length_size value) (length (templated value)) ≡ list_capdus «data» os
@@ -191,4 +192,4 @@ module _ («data» : List ℕ) where
 
     pub pieces_are : pieces_of (template_of (templated value)) (templated value) ≡ list_capdus «data» os
     unfolding pieces_of pieces_in
-    pieces_are = ap (λ (t : Template). pieces_of t (templated value)) template-runs ∙ value-pieces
+    pieces_are = ap (λ (t : Option Template). pieces_of t (templated value)) template-runs ∙ value-pieces

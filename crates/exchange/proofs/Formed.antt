@@ -1,5 +1,6 @@
 -- The pieces of a template in a script of bytes: the fifth byte of each C-APDU is a byte, a bad format has a code 01 to 03 and is the last
 -- of them, and there are no more pieces than bytes. Assumes nothing.
+use Rattle.std.specs.Prelude.{Option, Some, None}
 use Prim.Native.Nat.{ℕ, zero, suc, ◌+◌, ◌≤◌, ◌<◌}
 use mathlib.Core.Path.{◌≡◌, refl}
 use mathlib.Core.Bool.{Bool}
@@ -11,7 +12,7 @@ use Rattle.octets.proofs.Picks.{on_pick, on_test}
 use Rattle.tlv.specs.declared.lengths.Length.{Length}
 use Rattle.tlv.specs.declared.lengths.Length.TheVariants as lengths
 use Rattle.tlv.specs.declared.template.Template.{Template}
-use Rattle.tlv.specs.declared.template.Template.TheVariants.{Definite, Indefinite, Missing}
+use Rattle.tlv.specs.declared.template.Template.TheVariants.{Definite, Indefinite}
 use Rattle.tlv.specs.declared.template.Item.{Item}
 use Rattle.tlv.specs.declared.template.Item.TheVariants.{Capdu, Bad, End}
 use Rattle.tlv.specs.Lengths.{short_length, long_length, length_at}
@@ -87,11 +88,11 @@ module _ (script : List ℕ) where
       (omega arith)
 
   -- a template has no more pieces than its script has bytes
-  pub template-few : (template : Template) → length (pieces_of template script) ≤ length script
+  pub template-few : (template : Option Template) → length (pieces_of template script) ≤ length script
   unfolding pieces_of pieces_in
-  template-few (Definite at end) = pieces-few (length script) at end
-  template-few (Indefinite at end) = pieces-few (length script) at end
-  template-few Missing = omega arith
+  template-few (Some (Definite at end)) = pieces-few (length script) at end
+  template-few (Some (Indefinite at end)) = pieces-few (length script) at end
+  template-few None = omega arith
 
   module _ (small : AllBytes script) where
     item_formed : (item : Item) → Coded item → (rest : ℕ → ℕ → List Piece) → ((from size : ℕ) → Formed (rest from size))
@@ -105,11 +106,11 @@ module _ (script : List ℕ) where
     pieces-formed zero at end = tt
     pieces-formed (suc n) at end = item_formed (item_at script at end) (item_coded script at end) _ (λ from size. pieces-formed n (from + size) end)
 
-    pub template-formed : (template : Template) → Formed (pieces_of template script)
+    pub template-formed : (template : Option Template) → Formed (pieces_of template script)
     unfolding pieces_of pieces_in
-    template-formed (Definite at end) = pieces-formed (length script) at end
-    template-formed (Indefinite at end) = pieces-formed (length script) at end
-    template-formed Missing = tt
+    template-formed (Some (Definite at end)) = pieces-formed (length script) at end
+    template-formed (Some (Indefinite at end)) = pieces-formed (length script) at end
+    template-formed None = tt
 
 -- no more of them run than there are
 pub after-few : {S R : Type 0} (does : S → R → S) (on : S → Bool) (s : S) (rs : List R) → length (after does on s rs) ≤ length rs

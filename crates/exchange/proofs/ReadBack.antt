@@ -3,6 +3,7 @@
 -- (`answer-whole`). A compact one is read (`run-read`). An expanded one is made of good replies (`told-all`), with no more of them than
 -- pieces that ran, and their bytes have room: so it is read as answers of good replies are
 -- (`definite_read_lem`, `indefinite_read_lem`). Assumes nothing.
+use Rattle.std.specs.Prelude.{Option, Some, None}
 use Prim.Native.Nat.{ℕ, ◌+◌, ◌≤◌, ◌<◌}
 use mathlib.Core.Path.{◌≡◌, refl, sym, ap, subst, ◌∙◌}
 use mathlib.Core.Bool.{Bool, true, false, false≢true}
@@ -17,7 +18,7 @@ use Rattle.octets.specs.Bytes.{AllBytes, overwrite}
 use Rattle.octets.proofs.Picks.{and_left, and_right}
 use Rattle.card.specs.Row.{Card}
 use Rattle.tlv.specs.declared.template.Template.{Template}
-use Rattle.tlv.specs.declared.template.Template.TheVariants.{Definite, Indefinite, Missing}
+use Rattle.tlv.specs.declared.template.Template.TheVariants.{Definite, Indefinite}
 use Rattle.tlv.specs.Lengths.{length_bytes}
 use Rattle.tlv.specs.Templates.{template_of}
 use Rattle.journal.specs.Promised.{Starts}
@@ -77,7 +78,7 @@ module _ (script : List ℕ) (small : AllBytes script) (short : length script �
   unfolding begun started
   begins = record { holds = starts_holds card application starts; few = omega arith }
 
-  module _ (template : Template) where
+  module _ (template : Option Template) where
     abbrev ps : List Progress
     ps = progress_after template script application domain card
 
@@ -108,13 +109,13 @@ module _ (script : List ℕ) (small : AllBytes script) (short : length script �
         (subst (λ (n : ℕ). IsRead 1 (answer_bytes (is_definite template) n (end.kept ++ end.last)) n rs) (sym counted)
         (told-read (is_definite template) (length ps) end rs ran_few all_told))
 
-  template-read : (template : Template) → is_missing template ≡ false
+  template-read : (template : Option Template) → is_missing template ≡ false
       → let p : Progress = expanded.run template script application domain card in
       IsRead 1 (expanded.answer template p) p.state.step.count (rs template)
   unfolding expanded.answer is_missing is_definite
-  template-read (Definite at end) there = ends_read (Definite at end)
-  template-read (Indefinite at end) there = ends_read (Indefinite at end)
-  template-read Missing there = absurd (false≢true (sym there))
+  template-read (Some (Definite at end)) there = ends_read (Some (Definite at end))
+  template-read (Some (Indefinite at end)) there = ends_read (Some (Indefinite at end))
+  template-read None there = absurd (false≢true (sym there))
 
 -- ---- an accepted run
 module _ (a : Arguments) (c : Card) (small : AllBytes a.script) (none : first_given (run_refusals c a) ≡ 0) where

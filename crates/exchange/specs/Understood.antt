@@ -1,5 +1,5 @@
 -- "What the builder writes must be understood by the engine as exactly that list."
-use Rattle.std.specs.Prelude.{ℕ, ◌+◌, ◌*◌, Bool, true, false, not, ◌&&◌, List, [], ◌∷◌, ◌≡◌, length, take, eqb}
+use Rattle.std.specs.Prelude.{ℕ, ◌+◌, ◌*◌, Bool, true, false, not, ◌&&◌, List, [], ◌∷◌, ◌≡◌, length, take, eqb, Some}
 use Rattle.octets.specs.Choice.{pick}
 use Rattle.card.specs.Row.{Card}
 use Rattle.tlv.specs.declared.template.Template.TheVariants.{Definite}
@@ -117,7 +117,7 @@ pub record Understood (format : ℕ) (list «data» script : List ℕ) : Type 0 
   -- compact: the engine's own reading of the script is the list's commands
   pub compact : format ≡ 0 → commands_of script ≡ list_commands 0 «data» (operations_of list)
   -- expanded: the template runs to the end, its pieces are the list's C-APDUs, and these are the list's commands
-  pub template : format ≡ 1 → (at : ℕ) × (template_of script ≡ Definite at (length script))
+  pub template : format ≡ 1 → (at : ℕ) × (template_of script ≡ Some (Definite at (length script)))
   pub pieces : format ≡ 1 → pieces_of (template_of script) script ≡ list_capdus «data» (operations_of list)
   pub capdus : capdu_commands (list_capdus «data» (operations_of list)) ≡ list_commands 1 «data» (operations_of list)
   -- exactly: from the commands the operations can be told again

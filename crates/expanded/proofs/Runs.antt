@@ -1,4 +1,5 @@
 -- An expanded script of bytes keeps its card sound, scripts on trial, its session good, 255 waiting bytes, and what a take-back gives. Assumes nothing.
+use Rattle.std.specs.Prelude.{Option, Some, None}
 use mathlib.Core.Bool.{Bool, true, false}
 use mathlib.Core.List.{List}
 use Prim.Native.Nat.{ℕ, zero, suc, ◌+◌, ◌≤◌, ◌<◌}
@@ -10,7 +11,7 @@ use Rattle.octets.specs.Bytes.{byte, AllBytes, part}
 use Rattle.octets.proofs.Numbers.{byte-part}
 use Rattle.card.specs.Row.{Card}
 use Rattle.tlv.specs.declared.template.Template.{Template}
-use Rattle.tlv.specs.declared.template.Template.TheVariants.{Definite, Indefinite, Missing}
+use Rattle.tlv.specs.declared.template.Template.TheVariants.{Definite, Indefinite}
 use Rattle.tlv.specs.declared.template.Item.{Item}
 use Rattle.tlv.specs.declared.template.Item.TheVariants.{Capdu, Bad, End}
 use Rattle.tlv.specs.Templates.{item_at}
@@ -86,9 +87,9 @@ module _ (script : List ℕ) (small : AllBytes script) (before : Card) (domain :
       (λ code. bad_holds before code p h)
       h
 
-pub run-keeps : (script : List ℕ) → AllBytes script → (before : Card) (template : Template) (application domain : ℕ) (card : Card) → Holds before (start application) card
+pub run-keeps : (script : List ℕ) → AllBytes script → (before : Card) (template : Option Template) (application domain : ℕ) (card : Card) → Holds before (start application) card
     → Holds before (run template script application domain card).state.step.session (run template script application domain card).state.card
 unfolding run begun started
-run-keeps script small before (Definite at end) application domain card h = run_holds script small before domain true (length script) at end (begun application card) h
-run-keeps script small before (Indefinite at end) application domain card h = run_holds script small before domain false (length script) at end (begun application card) h
-run-keeps script small before Missing application domain card h = h
+run-keeps script small before (Some (Definite at end)) application domain card h = run_holds script small before domain true (length script) at end (begun application card) h
+run-keeps script small before (Some (Indefinite at end)) application domain card h = run_holds script small before domain false (length script) at end (begun application card) h
+run-keeps script small before None application domain card h = h

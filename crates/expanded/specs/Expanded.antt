@@ -1,10 +1,10 @@
 -- "Expanded": R-APDUs, running a script under the 1,000-byte rule, and the answer.
-use Rattle.std.specs.Prelude.{ℕ, zero, suc, ◌+◌, Bool, true, false, not, ◌||◌, List, [], ◌∷◌, ◌++◌, length, take, ltb, eqb}
+use Rattle.std.specs.Prelude.{ℕ, zero, suc, ◌+◌, Bool, true, false, not, ◌||◌, List, [], ◌∷◌, ◌++◌, length, take, ltb, eqb, Option, Some, None}
 use Rattle.octets.specs.Choice.{pick}
 use Rattle.octets.specs.Bytes.{bytes2, part}
 use Rattle.card.specs.Row.{Card}
 use Rattle.tlv.specs.declared.template.Template.{Template}
-use Rattle.tlv.specs.declared.template.Template.TheVariants.{Definite, Indefinite, Missing}
+use Rattle.tlv.specs.declared.template.Template.TheVariants.{Definite, Indefinite}
 use Rattle.tlv.specs.declared.template.Item.TheVariants.{Capdu, Bad, End}
 use Rattle.tlv.specs.Lengths.{length_bytes}
 use Rattle.tlv.specs.Templates.{item_at}
@@ -115,12 +115,12 @@ unfoldable pub begun : ℕ → Card → Progress
 begun application card = record { state = started application card; kept = []; last = [] }
 
 -- a whole script; each item takes a byte or more
-unfoldable pub run : Template → List ℕ → ℕ → ℕ → Card → Progress
-run (Definite at end) script application domain card =
+unfoldable pub run : Option Template → List ℕ → ℕ → ℕ → Card → Progress
+run (Some (Definite at end)) script application domain card =
     run_from (length script) script domain true at end (begun application card)
-run (Indefinite at end) script application domain card =
+run (Some (Indefinite at end)) script application domain card =
     run_from (length script) script domain false at end (begun application card)
-run Missing script application domain card = begun application card
+run None script application domain card = begun application card
 
 -- "count as shortest signed integer (128 is 00 80)"; a script has less than 32,768 commands
 unfoldable pub count_bytes : ℕ → List ℕ
@@ -143,7 +143,7 @@ unfoldable pub answer_bytes : Bool → ℕ → List ℕ → List ℕ
 answer_bytes definite count rapdus = pick definite (definite_answer count rapdus) (indefinite_answer rapdus)
 
 -- "R-APDUs of case 2 and 4 commands (by size) and of the last command, once (a Bad format TLV counts as the last command)"
-unfoldable pub answer : Template → Progress → List ℕ
-answer (Definite at end) p = answer_bytes true p.state.step.count (p.kept ++ p.last)
-answer (Indefinite at end) p = answer_bytes false p.state.step.count (p.kept ++ p.last)
-answer Missing p = []
+unfoldable pub answer : Option Template → Progress → List ℕ
+answer (Some (Definite at end)) p = answer_bytes true p.state.step.count (p.kept ++ p.last)
+answer (Some (Indefinite at end)) p = answer_bytes false p.state.step.count (p.kept ++ p.last)
+answer None p = []

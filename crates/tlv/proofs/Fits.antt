@@ -6,6 +6,7 @@ use Prim.Native.Nat.{ℕ, ◌+◌, ◌<◌}
 use native.Mathlib.Omega.{arith}
 use lib.Dec.{leb, ltb, eqb}
 use lib.ListN.{length}
+use Rattle.std.specs.Prelude.{Option}
 use borrow.Author.Tests.{leb-true, ltb-true}
 use Rattle.octets.specs.Choice.{pick}
 use Rattle.octets.specs.Bytes.{byte, AllBytes, num_at}
@@ -73,7 +74,7 @@ module _ (bs : List ℕ) (bytes : AllBytes bs) where
       (λ broken. tt))
       (λ none. tt))
 
-  pub template-told : {t : Template} → t ≡ template_of bs → (t ≡ template_of bs) × TemplateFits (length bs) t
+  pub template-told : {t : Option Template} → t ≡ template_of bs → (t ≡ template_of bs) × TemplateFits (length bs) t
   template-told e = (e, rw e template_fits_lem)
 
   item_fits : (at end : ℕ) → ItemFits at end (item_at bs at end)

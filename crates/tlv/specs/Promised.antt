@@ -1,9 +1,9 @@
 -- What promises speak of besides the rules: where a length, a template's value and a C-APDU lie.
-use Rattle.std.specs.Prelude.{ℕ, ◌+◌, ◌≤◌, ◌<◌}
+use Rattle.std.specs.Prelude.{ℕ, Option, Some, None, ◌+◌, ◌≤◌, ◌<◌}
 use Rattle.tlv.specs.declared.lengths.Length.{Length}
 use Rattle.tlv.specs.declared.lengths.Length.TheVariants as lengths
 use Rattle.tlv.specs.declared.template.Template.{Template}
-use Rattle.tlv.specs.declared.template.Template.TheVariants.{Definite, Indefinite, Missing}
+use Rattle.tlv.specs.declared.template.Template.TheVariants.{Definite, Indefinite}
 use Rattle.tlv.specs.declared.template.Item.{Item}
 use Rattle.tlv.specs.declared.template.Item.TheVariants as items
 use Rattle.tlv.specs.Templates.{least_capdu}
@@ -14,10 +14,10 @@ LengthFits at end (lengths.Found n place) = (at < place) × (place ≤ end) × (
 LengthFits at end (lengths.Bad code) = code < 256
 
 -- a template's value lies in the script
-unfoldable pub TemplateFits : ℕ → Template → Type 0
-TemplateFits script (Definite at end) = (at ≤ end) × (end ≤ script)
-TemplateFits script (Indefinite at end) = (at ≤ end) × (end ≤ script)
-TemplateFits script Missing = Unit
+unfoldable pub TemplateFits : ℕ → Option Template → Type 0
+TemplateFits script (Some (Definite at end)) = (at ≤ end) × (end ≤ script)
+TemplateFits script (Some (Indefinite at end)) = (at ≤ end) × (end ≤ script)
+TemplateFits script None = Unit
 
 -- a C-APDU that stands there lies in the value, after the place, and has at least four bytes; a bad format stands in the value
 unfoldable pub ItemFits : ℕ → ℕ → Item → Type 0

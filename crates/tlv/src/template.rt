@@ -7,12 +7,11 @@ ghost use Rattle.tlv.specs.Promised.{TemplateFits, ItemFits};
 
 use crate::lengths::{Length, OTHER_TAG, WRONG_LENGTH, code_of, length_at};
 
-// The template of a script: its form, and where its value begins and ends; or none.
-#[derive(Clone, Copy)]
+// The template of a script: its form, and where its value begins and ends.
+#[derive(Clone, Copy, Debug, PartialEq, Eq)]
 pub enum Template {
     Definite(usize, usize),
     Indefinite(usize, usize),
-    Missing,
 }
 
 // What stands at a place of a template's value: a C-APDU (where it begins and how many bytes it has), a bad format, or nothing more.
@@ -26,40 +25,40 @@ pub enum Item {
 // A C-APDU has at least four bytes.
 const LEAST_CAPDU: usize = 4;
 
-// Returns the template of a script with the tag AA: its length runs exactly to the script's end, or it is missing.
-fn definite(script: &[u8]) -> Template
+// Returns the template of a script with the tag AA: its length runs exactly to the script's end, or there is none.
+fn definite(script: &[u8]) -> Option<Template>
     requires { 1 ≤ length script.now }
     ensures { result ≡ spec.definite (length_at script.now 1 (length script.now)) (length script.now) }
 {
     let Length::Found(n, at) = length_at(script, 1, script.len()) else {
-        return Template::Missing;
+        return None;
     };
     if at + n == script.len() {
-        return Template::Definite(at, script.len());
+        return Some(Template::Definite(at, script.len()));
     }
-    Template::Missing
+    None
 }
 
-// Returns the template of a script with the tag AE: 80 comes next and 00 00 are the last two bytes, or it is missing.
-fn indefinite(script: &[u8]) -> Template
+// Returns the template of a script with the tag AE: 80 comes next and 00 00 are the last two bytes, or there is none.
+fn indefinite(script: &[u8]) -> Option<Template>
     ensures { result ≡ spec.indefinite script.now (length script.now) }
 {
     let end = script.len();
     if end < 4 {
-        return Template::Missing;
+        return None;
     }
     if (script[1] == 0x80) & ((script[end - 2] == 0) & (script[end - 1] == 0)) {
-        return Template::Indefinite(2, end - 2);
+        return Some(Template::Indefinite(2, end - 2));
     }
-    Template::Missing
+    None
 }
 
 // Returns the template of a script.
-pub fn template_of(script: &[u8]) -> Template
+pub fn template_of(script: &[u8]) -> Option<Template>
     ensures { (result ≡ spec.template_of script.now) × TemplateFits (length script.now) result }
 {
     if script.len() < 1 {
-        return Template::Missing;
+        return None;
     }
     if script[0] == 0xAA {
         return definite(script);
@@ -67,7 +66,7 @@ pub fn template_of(script: &[u8]) -> Template
     if script[0] == 0xAE {
         return indefinite(script);
     }
-    Template::Missing
+    None
 }
 
 // Returns what the length at the place `at` gives, in a value that ends at `end`: a C-APDU, or a bad format.

@@ -1,92 +1,85 @@
--- `engine::run` meets its contract: it is what its start says, a number alone, or the script of its format. Assumes nothing.
---
--- In each arm of the match the start is known, and with it what it says of the run (`said`): the number that is given, or that none is
--- and which format and template the script has. From that follows what the arm's function asks, and that its result is the run's.
-use mathlib.Core.Path.{◌≡◌, sym, subst, ◌∙◌}
+-- `engine::run` meets its contract: it is what its start says, a number alone, or the script of its format.
+-- In each arm the start is known, and with it what it says of the run (`said`): the number that is given, or that none is and which format
+-- and template the script has. From that follows what the arm's function asks, and that its result is the run's. Assumes nothing.
+use mathlib.Core.Path.{◌≡◌, refl, sym, ap, subst, ◌∙◌}
+use mathlib.Core.List.{List}
+use Prim.Native.Nat.{ℕ}
 use native.Mathlib.Omega.{arith}
 use lib.ListN.{length}
-use borrow.Author.Rules.{rules}
-use Rattle.card.specs.Row.{Card, lent}
+use Rattle.std.specs.Prelude.{Result, Ok, Err}
+use Rattle.std.proofs.lemmas.Result.{err_from_is_err_and}
+use Rattle.tlv.specs.Promised.{TemplateFits}
+use Rattle.card.specs.Lent.{held}
+use Rattle.card.specs.Row.{Card}
+use Rattle.engine.specs.declared.Call.{Call}
 use Rattle.engine.specs.declared.numbers.Start.{Start}
-use Rattle.engine.specs.Numbers.{Arguments}
+use Rattle.engine.specs.declared.numbers.Start.TheVariants.{Expanded}
+use Rattle.engine.specs.Numbers.{start_of}
+use Rattle.engine.specs.Calls.{arguments_of}
 use Rattle.engine.specs.Promised.{StartFits}
 use Rattle.engine.proofs.RunNumbers.{six-most}
 use Rattle.engine.proofs.Starts.{Says, says}
-use Rattle.engine.proofs.Answers.{answers_number}
+use Rattle.engine.proofs.Answers.{number-fits}
 use Rattle.engine.proofs.Accepted.{may_start, compact-run, definite-run, indefinite-run, refused-run}
 use Rattle.engine.proofs.run.Goals as goal
-use Rattle.engine.proofs.run.Lts as lts
-use Rattle.engine.proofs.run.Reads as reads
-use Rattle.engine.proofs.run.Tie as tie
 
-abbrev The-Start : Type 0
-The-Start = lts.Start tie.the-claims reads.Pre reads.Post
+-- what is asked of a start, over a response memory of the length that it was asked for
+abbrev Starts : Card → Call → List ℕ → List ℕ → Result Start ℕ → Type 0
+Starts k call script response s = (other : List ℕ) → length other ≡ length response → s ≡ start_of k (arguments_of call script other)
 
-abbrev After-start_of : Type 0
-After-start_of = lts.After-start_of tie.the-claims reads.Pre reads.Post
+-- what a start says of the run
+said : (k : Card) (call : Call) (script response : List ℕ) {s : Result Start ℕ} → Starts k call script response s → Says k (arguments_of call script response) s
+said k call script response is = says _ _ (is response refl)
 
-abbrev card_of : The-Start → Card
-card_of s = lent s.args.table.now s.args.files.now s.args.journal.now
+-- the same of a script's, once that is known
+known : (k : Card) (call : Call) (script response : List ℕ) {found start : Start} → Starts k call script response (Ok found) × StartFits (length script) (Ok found) → found ≡ start
+    → Says k (arguments_of call script response) (Ok start) × StartFits (length script) (Ok start)
+known k call script response given is =
+    subst (λ (s : Start). Says k (arguments_of call script response) (Ok s) × StartFits (length script) (Ok s)) is (said k call script response given.0, given.1)
 
-abbrev arguments_of : The-Start → Arguments
-arguments_of s =
-    record {
-      application = s.args.application;
-      domain = s.args.domain;
-      format = s.args.format;
-      script = s.args.script.now;
-      response = s.args.response.now;
-    }
-
-abbrev start : After-start_of → The-Start
-start c = c.before.before.before.before.before.before.before
-
--- what the start says of the run, and that the value of its template lies in the script
-said : (k : After-start_of) {s : Start} → k.start_of.result ≡ s → Says (card_of k.before.before.before.before.before.before.before) (arguments_of k.before.before.before.before.before.before.before) s
-said k e = says _ _ (sym e ∙ k.start_of.ensures.0 k.args.response.now (search rules))
-
-lies : (k : After-start_of) {s : Start} → k.start_of.result ≡ s → StartFits (length k.args.script.now) s
-lies k e = subst (StartFits (length k.args.script.now)) e k.start_of.ensures.1
+pub returns-in_err-start_of-clause-ran : goal.returns-in_err-start_of-clause-ran
+returns-in_err-start_of-clause-ran c =
+    let p = err_from_is_err_and c.from_residual.result c.from_residual.ensures.1 in
+    let k = held c.args.card.now in
+    let a = arguments_of c.args.call c.args.script.now c.args.response.now in
+    let s = said k c.args.call c.args.script.now c.args.response.now c.in_err-start_of.ensures.0 in
+    rw (p.1, p.2) (refused-run k a _ s.0 (λ z. omega (arith, s.1)), number-fits _ (omega (arith, s.0, six-most k a)))
 
 pub run_compact-requires : goal.run_compact-requires
 run_compact-requires c =
-    let s = said c.before.before.before.before.before.before c.in-Compact.is in
+    let s = (known (held c.args.card.now) c.args.call c.args.script.now c.args.response.now c.in_ok-start_of.ensures c.in-Compact.is).0 in
     may_start _ _ s.0 s.1
 
+pub returns-in-Compact-clause-ran : goal.returns-in-Compact-clause-ran
+returns-in-Compact-clause-ran c =
+    let s = (known (held c.args.card.now) c.args.call c.args.script.now c.args.response.now c.in_ok-start_of.ensures c.in-Compact.is).0 in
+    let r = c.run_compact.ensures.ran in
+    (r.0 ∙ compact-run _ _ s.0 s.1, r.1)
+
 pub run_value-requires : goal.run_value-requires
-unfolding StartFits
+unfolding StartFits TemplateFits
 run_value-requires c =
-    let s = said c.before.before.before.before.before.before c.in-Definite.is in
-    let l = lies c.before.before.before.before.before.before c.in-Definite.is in
-    (l.0, l.1, may_start _ _ s.0 s.1)
+    let d = c.in-Expanded-Definite in
+    let s = known (held c.args.card.now) c.args.call c.args.script.now c.args.response.now c.in_ok-start_of.ensures (d.is ∙ ap Expanded d.field-0-is) in
+    (s.1.0, s.1.1, may_start _ _ s.0.0 s.0.1)
 
-pub run_value-requires-in-Indefinite : goal.run_value-requires-in-Indefinite
-unfolding StartFits
-run_value-requires-in-Indefinite c =
-    let s = said c.before.before.before.before.before.before c.in-Indefinite.is in
-    let l = lies c.before.before.before.before.before.before c.in-Indefinite.is in
-    (l.0, l.1, may_start _ _ s.0 s.1)
+pub run_value-requires-in-Expanded-Indefinite : goal.run_value-requires-in-Expanded-Indefinite
+unfolding StartFits TemplateFits
+run_value-requires-in-Expanded-Indefinite c =
+    let d = c.in-Expanded-Indefinite in
+    let s = known (held c.args.card.now) c.args.call c.args.script.now c.args.response.now c.in_ok-start_of.ensures (d.is ∙ ap Expanded d.field-0-is) in
+    (s.1.0, s.1.1, may_start _ _ s.0.0 s.0.1)
 
-pub returns-in-Refused : goal.returns-in-Refused
-returns-in-Refused c =
-    let s = said c.before.before.before c.in-Refused.is in
-    let few = six-most (card_of c.before.before.before.before.before.before.before.before.before.before) (arguments_of c.before.before.before.before.before.before.before.before.before.before) in
-    answers_number _ (omega (arith, s.0, few)) c.numbered.ensures _ _ (refused-run _ _ _ s.0 (λ z. omega (arith, s.1)))
+pub returns-in-Expanded-Definite-clause-ran : goal.returns-in-Expanded-Definite-clause-ran
+returns-in-Expanded-Definite-clause-ran c =
+    let d = c.in-Expanded-Definite in
+    let s = (known (held c.args.card.now) c.args.call c.args.script.now c.args.response.now c.in_ok-start_of.ensures (d.is ∙ ap Expanded d.field-0-is)).0 in
+    let r = c.run_value.ensures.ran in
+    (r.0 ∙ definite-run _ _ s.0 s.1 s.2, r.1)
 
-pub returns-in-Compact : goal.returns-in-Compact
-returns-in-Compact c =
-    let s = said c.before.before.before.before.before.before.before.before.before.before.before.before.before.before.before c.in-Compact.is in
-    let r = c.run_compact.ensures in
-    (r.0 ∙ compact-run _ _ s.0 c.wide-wide.ensures.0 s.1, r.1)
-
-pub returns-in-Definite : goal.returns-in-Definite
-returns-in-Definite c =
-    let s = said c.before.before.before.before.before.before.before.before.before.before.before.before.before.before.before c.in-Definite.is in
-    let r = c.run_value.ensures in
-    (r.0 ∙ definite-run _ _ s.0 c.wide-wide.ensures.0 s.1 s.2, r.1)
-
-pub returns-in-Indefinite : goal.returns-in-Indefinite
-returns-in-Indefinite c =
-    let s = said c.before.before.before.before.before.before.before.before.before.before.before.before.before.before.before c.in-Indefinite.is in
-    let r = c.run_value-in-Indefinite.ensures in
-    (r.0 ∙ indefinite-run _ _ s.0 c.wide-wide.ensures.0 s.1 s.2, r.1)
+pub returns-in-Expanded-Indefinite-clause-ran : goal.returns-in-Expanded-Indefinite-clause-ran
+returns-in-Expanded-Indefinite-clause-ran c =
+    let d = c.in-Expanded-Indefinite in
+    let s = (known (held c.args.card.now) c.args.call c.args.script.now c.args.response.now c.in_ok-start_of.ensures (d.is ∙ ap Expanded d.field-0-is)).0 in
+    let r = c.run_value-in-Expanded-Indefinite.ensures.ran in
+    (r.0 ∙ indefinite-run _ _ s.0 s.1 s.2, r.1)

@@ -7,28 +7,19 @@ use Rattle.engine.specs.Numbers.{template_start, script_start}
 use Rattle.engine.specs.Promised.{StartFits}
 use Rattle.engine.proofs.Starts.{expanded-start}
 use Rattle.engine.proofs.numbers.script_start.Goals as goal
-use Rattle.engine.proofs.numbers.script_start.Lts as lts
-use Rattle.engine.proofs.numbers.script_start.Reads as reads
-use Rattle.engine.proofs.numbers.script_start.Tie as tie
 
 pub returns-in-Compact : goal.returns-in-Compact
 unfolding script_start StartFits
 returns-in-Compact c =
     (ap (λ (f : Format). script_start f c.args.script.now) (sym c.in-Compact.is), tt)
 
-pub returns-in-Definite : goal.returns-in-Definite
-unfolding template_start TemplateFits StartFits
-returns-in-Definite c =
-    let found = c.template_of.ensures in
-    (expanded-start c.args.script.now c.in-Expanded.is found.0 c.in-Definite.is, subst (TemplateFits (length c.args.script.now)) c.in-Definite.is found.1)
-
-pub returns-in-Indefinite : goal.returns-in-Indefinite
-unfolding template_start TemplateFits StartFits
-returns-in-Indefinite c =
-    let found = c.template_of.ensures in
-    (expanded-start c.args.script.now c.in-Expanded.is found.0 c.in-Indefinite.is, subst (TemplateFits (length c.args.script.now)) c.in-Indefinite.is found.1)
-
-pub returns-in-Missing : goal.returns-in-Missing
+pub returns-in-Some : goal.returns-in-Some
 unfolding template_start StartFits
-returns-in-Missing c =
-    (expanded-start c.args.script.now c.in-Expanded.is c.template_of.ensures.0 c.in-Missing.is, tt)
+returns-in-Some c =
+    let found = c.template_of.ensures in
+    (expanded-start c.args.script.now c.in-Expanded.is found.0 c.in-Some.is, subst (TemplateFits (length c.args.script.now)) c.in-Some.is found.1)
+
+pub returns-in_default : goal.returns-in_default
+unfolding template_start StartFits
+returns-in_default c =
+    (expanded-start c.args.script.now c.in-Expanded.is c.template_of.ensures.0 c.in_default.is, tt)

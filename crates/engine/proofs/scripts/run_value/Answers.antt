@@ -9,19 +9,10 @@ use native.Mathlib.Omega.{arith}
 use lib.ListN.{length-take}
 use lib.Seq.{length-take-le}
 use borrow.Author.Rules.{rules}
-use Rattle.card.specs.Row.{Card, lent}
-use Rattle.engine.specs.Calls.{run_value}
+use Rattle.card.specs.Lent.{held}
+use Rattle.engine.specs.Calls.{arguments_of, run_value}
 use Rattle.engine.proofs.Ended.{with_mark_lem, begins, expanded_longest, expanded-small, value-gives}
 use Rattle.engine.proofs.scripts.run_value.Goals as goal
-use Rattle.engine.proofs.scripts.run_value.Lts as lts
-use Rattle.engine.proofs.scripts.run_value.Reads as reads
-use Rattle.engine.proofs.scripts.run_value.Tie as tie
-
-abbrev Start : Type 0
-Start = lts.Start tie.the-claims reads.Pre reads.Post
-
-abbrev card_of : Start → Card
-card_of s = lent s.args.table.now s.args.files.now s.args.journal.now
 
 pub run-g-requires : goal.run-g-requires
 run-g-requires c =
@@ -29,28 +20,28 @@ run-g-requires c =
       ahead = c.requires.0;
       inside = c.requires.1;
       short = c.requires.2.script_short;
-      starts = begins (card_of c.before.before.before.before.before.before.before.before.before.before.before.before.before.before) c.mark.ensures c.requires.2.starts;
+      starts = begins (held c.args.card.now) c.mark.ensures c.requires.2.starts;
       room = search rules;
     }
 
 pub slice_bounds-put_answer-end : goal.slice_bounds-put_answer-end
 slice_bounds-put_answer-end c =
     let r = c.run-g in
-    sym (length-take-le (r.result.kept + r.result.last) _ (omega (arith, r.ensures.1)))
+    sym (length-take-le (r.result.kept + r.result.last) _ (omega (arith, r.ensures.ran.1)))
 
 pub put_answer-length-requires : goal.put_answer-length-requires
 put_answer-length-requires c =
     let r = c.run-g in
     let long = c.requires.2.response_long in (
       omega (arith, long, expanded_longest),
-      rw length-take (omega (arith, r.ensures.1)),
-      r.ensures.2,
+      rw length-take (omega (arith, r.ensures.ran.1)),
+      r.ensures.ran.2,
     )
 
-pub returns : goal.returns
-returns c =
+pub returns-clause-ran : goal.returns-clause-ran
+returns-clause-ran c =
     let r = c.run-g in
     let p = c.put_answer-length.ensures in (
-      value-gives _ _ _ _ _ r.result _ _ _ _ r.ensures.0 p.0 p.1 ∙ ap (run_value _ _ _ _) (with_mark_lem (card_of c.before.before.before.before.before.before.before.before.before.before.before.before.before.before.before.before.before.before.before.before.before.before.before.before.before.before.before.before.before) c.mark.ensures),
-      expanded-small _ r.result.step.count _ (rw length-take (omega (arith, r.ensures.1))) r.ensures.2 _ p.1,
+      value-gives _ _ _ (arguments_of c.args.call c.args.script.now c.args.response.now) _ r.result (held r.new.card) _ _ _ (rw c.wide.ensures.0 at r.ensures.ran.0) p.0 p.1 ∙ ap (run_value _ _ _ _) (with_mark_lem (held c.args.card.now) c.mark.ensures),
+      expanded-small _ r.result.step.count _ (rw length-take (omega (arith, r.ensures.ran.1))) r.ensures.ran.2 _ p.1,
     )
