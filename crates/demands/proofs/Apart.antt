@@ -148,7 +148,7 @@ module _ (a : Arguments) (c : Card) (small : AllBytes a.script) (none : first_gi
       every_after (command_done a.domain) word_goes_on GoesHere (λ (r : Read). length r.«data» ≤ 255) (command_goes a.application (taken_back (with_mark c)) (with_mark c) a.domain)
       (started a.application (with_mark c)) (commands_of a.script) begins (commands_brief a.script small (length a.script) 0)
 
-  abbrev template : Template
+  abbrev template : Option Template
   template = template_of a.script
 
   progress : Every (λ (p : Progress). GoesHere p.state) (progress_after template a.script a.application a.domain (with_mark c))

@@ -16,8 +16,8 @@ use Rattle.journal.proofs.Behind.{behind_less}
 use Rattle.journal.proofs.Written.{sound_writable}
 use Rattle.journal.proofs.Cut.{cut_length, cut_scripts, cut_used}
 use Rattle.journal.proofs.Kept.{taken_alike, taken_sound}
-use Rattle.engine.specs.Numbers.{Arguments, format_known, application_fits, arguments_fit}
-use Rattle.engine.specs.Calls.{numbered, run}
+use Rattle.engine.specs.Numbers.{numbered, Arguments, format_known, application_fits, arguments_fit}
+use Rattle.engine.specs.Calls.{run}
 use Rattle.demands.specs.Called.{Call, running, taking_back, confirming, result_of, number, lent_response, seen}
 use Rattle.engine.proofs.Answers.{confirm-done}
 use Rattle.engine.proofs.RunNumbers.{Met}

@@ -11,8 +11,8 @@ use Rattle.card.specs.Row.{Card}
 use Rattle.journal.specs.Changes.{taken_back, with_mark}
 use Rattle.command.specs.declared.Format.{Format}
 use Rattle.command.specs.declared.Format.TheVariants.{Compact, Expanded}
-use Rattle.engine.specs.Numbers.{Arguments, format_of, first_given, run_refusals, take_back_refusals, confirm_refusals}
-use Rattle.engine.specs.Calls.{Result, gives, numbered, accepted, unless_refused, run_script, run, take_back, confirm}
+use Rattle.engine.specs.Numbers.{numbered, Arguments, format_of, first_given, run_refusals, take_back_refusals, confirm_refusals}
+use Rattle.engine.specs.Calls.{Result, gives, accepted, unless_refused, run_script, run, take_back, confirm}
 use Rattle.engine.proofs.Answers.{given_nothing, given-done}
 use Rattle.engine.proofs.RunNumbers.{RunMet, is_met, meets}
 use Rattle.demands.specs.Called.{Call, running, taking_back, confirming, result_of, number, lent_response}

@@ -13,8 +13,8 @@ use Rattle.command.specs.declared.Format.TheVariants.{Compact, Expanded}
 use Rattle.step.proofs.Keeps.{Holds, starts_holds}
 use Rattle.compact.proofs.Runs as compact
 use Rattle.expanded.proofs.Runs as expanded
-use Rattle.engine.specs.Numbers.{Arguments, format_of, first_given, run_refusals}
-use Rattle.engine.specs.Calls.{Result, gives, numbered, accepted, run_script}
+use Rattle.engine.specs.Numbers.{numbered, Arguments, format_of, first_given, run_refusals}
+use Rattle.engine.specs.Calls.{Result, gives, accepted, run_script}
 use Rattle.demands.specs.Called.{running, taking_back, result_of, number}
 use Rattle.demands.specs.Demand3.{InBytes}
 use Rattle.engine.proofs.Answers.{back_done}

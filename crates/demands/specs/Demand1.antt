@@ -8,8 +8,8 @@ use Rattle.std.specs.Prelude.{ℕ, ◌≤◌, ◌<◌, true, false, ◌↔◌, �
 use Rattle.card.specs.Row.{Card}
 use Rattle.journal.specs.Entries.{scripts_on_trial}
 use Rattle.journal.specs.Sound.{mark_fits, sound_card}
-use Rattle.engine.specs.Numbers.{Arguments, format_of, arguments_fit, script_fits, least_response, template_fits}
-use Rattle.engine.specs.Calls.{gives, numbered}
+use Rattle.engine.specs.Numbers.{numbered, Arguments, format_of, arguments_fit, script_fits, least_response, template_fits}
+use Rattle.engine.specs.Calls.{gives}
 use Rattle.engine.proofs.run.Statement as run
 use Rattle.engine.proofs.take_back.Statement as take_back
 use Rattle.engine.proofs.confirm.Statement as confirm

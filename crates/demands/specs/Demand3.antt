@@ -9,8 +9,8 @@
 use Rattle.std.specs.Prelude.{ℕ, ◌≡◌, List, [], ◌∷◌, map, length}
 use Rattle.octets.specs.Bytes.{AllBytes}
 use Rattle.card.specs.Row.{Card}
-use Rattle.engine.specs.Numbers.{Arguments}
-use Rattle.engine.specs.Calls.{gives, numbered}
+use Rattle.engine.specs.Numbers.{numbered, Arguments}
+use Rattle.engine.specs.Calls.{gives}
 use Rattle.demands.specs.Called.{Call, running, taking_back, confirming, result_of, number, seen, Told, told}
 use Rattle.demands.specs.Remains.{answers_from, card_after, remains, calls_of, answers_of}
 

@@ -3,6 +3,7 @@
 -- A build that is not refused has written the script of its list, whose operations are all carried (`is-built`); its format is 0 or 1, and for
 -- each the reading of the script was worked out (`commands_are`, `pieces_are`). Numbers 3 and 6 would need a script that does not fit, or one
 -- without a template (`never_3`, `never_6`). Two lists with one script have the same commands, from which both are told. Assumes nothing.
+use Rattle.std.specs.Prelude.{Option}
 use Prim.Native.Nat.{ℕ, ◌≤◌}
 use mathlib.Core.Path.{◌≡◌, refl, sym, ap, subst, ◌∙◌}
 use mathlib.Core.Bool.{true, false, not, false≢true}
@@ -88,7 +89,7 @@ module _ (list «data» : List ℕ) where
   expanded-understood cs short =
       let script = templated (all_written 1 «data» os) in
       let runs = template-runs «data» cs short in
-      let fits : template_fits Expanded script ≡ true = ap (λ (t : Template). not (is_missing t)) runs in
+      let fits : template_fits Expanded script ≡ true = ap (λ (t : Option Template). not (is_missing t)) runs in
       record {
         compact = λ e. absurd (omega arith);
         template = λ _. (_, runs);

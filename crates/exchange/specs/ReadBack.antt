@@ -1,5 +1,5 @@
 -- "What the engine answers must be read back to the same count, status words and data".
-use Rattle.std.specs.Prelude.{ℕ, Bool, true, false, List, [], ◌∷◌, ◌≡◌, length}
+use Rattle.std.specs.Prelude.{ℕ, Option, Bool, true, false, List, [], ◌∷◌, ◌≡◌, length}
 use Rattle.card.specs.Row.{Card}
 use Rattle.tlv.specs.declared.template.Template.{Template}
 use Rattle.tlv.specs.Templates.{template_of}
@@ -55,7 +55,7 @@ standing definite (piece ∷ pieces) (p ∷ ps) =
 unfoldable pub replies_of : Format → Arguments → Card → List Reply
 replies_of Compact a c = last_reply (compact.run a.script a.application a.domain (with_mark c)) ∷ []
 replies_of Expanded a c =
-    let template : Template = template_of a.script in
+    let template : Option Template = template_of a.script in
     standing (is_definite template) (pieces_of template a.script)
     (progress_after template a.script a.application a.domain (with_mark c))
 

@@ -4,18 +4,23 @@
 ghost use Rattle.std.specs.Prelude.{◌≡◌, []};
 ghost use Rattle.card.specs.Row.{lent};
 ghost use Rattle.engine.specs.Calls as calls;
+ghost use Rattle.engine.specs.Numbers.{answer_of};
 ghost use Rattle.rfm.specs.Packed.{packed_answer, crosses, across};
 ghost use Rattle.engine.specs.Promised.{AnswerFits};
 
 use boundary::packed;
-use engine::Answer;
+use card::lent::LentCard;
+use engine::{Call, Done, Refused};
 
-// Returns an answer in one number.
-fn packed_answer(a: Answer) -> u64
-    requires { AnswerFits a }
-    ensures { result ≡ packed_answer a }
+// Returns what a call gives in one number.
+fn packed_answer(given: Result<Done, Refused>) -> u64
+    requires { AnswerFits (answer_of given) }
+    ensures { result ≡ packed_answer (answer_of given) }
 {
-    packed(a.number, a.count, a.length)
+    match given {
+        Ok(done) => packed(0, done.count, done.length),
+        Err(e) => packed(e.number(), 0, 0),
+    }
 }
 
 // Runs a script, with its answer at the front of `response`. Returns the call's number, count and length in one number.
@@ -34,16 +39,17 @@ pub extern "C" fn rfm_run(
         ≡ across (calls.run (record { application = application; domain = domain; format = format; script = script.now; response = response.old })
         (lent table.old files.old journal.old)) }
 {
-    packed_answer(engine::run(
+    let call = Call {
         application,
         domain,
         format,
-        script,
-        response,
+    };
+    let mut card = LentCard {
         table,
         files,
         journal,
-    ))
+    };
+    packed_answer(engine::run(call, script, response, &mut card))
 }
 
 // Takes the newest script back. Returns the call's number, count and length in one number.
@@ -51,7 +57,12 @@ pub extern "C" fn rfm_run(
 pub extern "C" fn rfm_take_back(table: &mut [u8], files: &mut [u8], journal: &mut [u8]) -> u64
     ensures { crosses result (lent table.new files.new journal.new) [] ≡ across (calls.take_back (lent table.old files.old journal.old)) }
 {
-    packed_answer(engine::take_back(table, files, journal))
+    let mut card = LentCard {
+        table,
+        files,
+        journal,
+    };
+    packed_answer(engine::take_back(&mut card))
 }
 
 // Confirms all scripts. Returns the call's number, count and length in one number.

@@ -1,7 +1,18 @@
--- `rfm::rfm_take_back` meets its contract. Assumes nothing.
+-- `rfm::rfm_take_back` meets its contract: the three memories are those of the card that was lent on, since they stay the same memories. Assumes nothing.
+use mathlib.Core.Path.{sym, ap, ◌∙◌}
+use mathlib.Core.List.{[]}
+use Rattle.card.specs.Row.{lent}
+use Rattle.engine.specs.Numbers.{answer_of}
+use Rattle.engine.specs.Calls.{gives}
 use Rattle.rfm.proofs.Crossing.{crossing}
 use Rattle.rfm.proofs.rfm_take_back.Goals as goal
 
 pub returns : goal.returns
 returns c =
-    crossing c.take_back.result c.take_back.ensures.1 _ _ _ _ c.take_back.ensures.0 c.packed_answer.ensures
+    let s = c.take_back.ensures.stays in
+    let t = c.table-1.given.1.1 (sym s.table) in
+    let f = c.files-1.given.1.1 (sym s.files) in
+    let j = c.journal-1.given.1.1 (sym s.journal) in
+    crossing (answer_of c.take_back.result) c.take_back.ensures.taken_back.1 (lent _ _ _) [] _ _
+    ((λ i. gives (answer_of c.take_back.result) (lent (t i) (f i) (j i)) []) ∙ c.take_back.ensures.taken_back.0)
+    c.packed_answer.ensures
