@@ -5,7 +5,7 @@ ghost use Rattle.command.specs.Checks as spec;
 // A check, named after what is wrong where it fails, in the order of the paper: first those that every command meets, up to the access
 // domain; then the two of SELECT, the two of GET RESPONSE, and those of a command on a file, up to the journal. The last one is about the
 // answer of an expanded script.
-#[derive(Clone, Copy)]
+#[derive(Clone, Copy, Debug, PartialEq, Eq)]
 pub enum Check {
     BrokenForm,
     UnknownInstruction,
@@ -39,6 +39,7 @@ pub enum Checked {
 }
 
 // Returns the word of a check that fails.
+#[tactic(auto, unfolding(crate::specs::Checks::check_word))]
 pub(crate) fn check_word(k: Check) -> usize
     ensures { result ≡ spec.check_word k }
 {

@@ -24,9 +24,8 @@ pub fn word_of(o: Outcome) -> usize
     ensures { result ≡ spec.word_of o }
 {
     match o {
-        Outcome::Well(word) => word,
-        Outcome::FromFiles(word, _, _) => word,
-        Outcome::FromWaiting(word, _) => word,
+        Outcome::Well(word) | Outcome::FromFiles(word, _, _) | Outcome::FromWaiting(word, _) =>
+            word,
         Outcome::Error(k) => check_word(k),
     }
 }
@@ -36,10 +35,9 @@ pub fn data_count(o: Outcome) -> usize
     ensures { result ≡ spec.data_count o }
 {
     match o {
-        Outcome::Well(_) => 0,
+        Outcome::Well(_) | Outcome::Error(_) => 0,
         Outcome::FromFiles(_, _, n) => n,
         Outcome::FromWaiting(_, n) => n,
-        Outcome::Error(_) => 0,
     }
 }
 
@@ -47,9 +45,10 @@ pub fn data_count(o: Outcome) -> usize
 pub fn goes_on(word: usize) -> bool
     ensures { result ≡ spec.goes_on word }
 {
-    (word == NORMAL)
-        | ((word == END_OF_DATA)
-            | ((word == SELECTED_DEACTIVATED) | ((BYTES_WAIT <= word) & (word <= MOST_BYTES_WAIT))))
+    matches!(
+        word,
+        NORMAL | END_OF_DATA | SELECTED_DEACTIVATED | BYTES_WAIT..=MOST_BYTES_WAIT
+    )
 }
 
 // Returns data that are a part of the file memory: its n bytes from a place on.
@@ -69,6 +68,7 @@ fn from_waiting<'f, 'w>(files: &'f [u8], waiting: &'w [u8], n: usize) -> &'w [u8
 }
 
 // Writes the data of an outcome at the place `at`, and returns the place after them.
+#[tactic(auto, unfolding(crate::specs::Outcomes::data_of, crate::specs::Promised::OutcomeFits))]
 pub fn put_data(out: &mut [u8], at: usize, o: Outcome, files: &[u8], waiting: &[u8]) -> usize
     requires { OutcomeFits (length files.now) o × (length waiting.now ≡ most_waiting) × (at + spec.data_count o ≤ length out.old) }
     ensures { (out.new ≡ overwrite out.old at (spec.data_of o files.now waiting.now)) × (result ≡ at + spec.data_count o) }

@@ -31,22 +31,24 @@ pub const WITH_FCP: usize = 0x04;
 pub fn carries_data(i: usize) -> bool
     ensures { result ≡ spec.carries_data i }
 {
-    (i == SELECT)
-        | ((i == UPDATE_BINARY) | ((i == UPDATE_RECORD) | ((i == SEARCH) | (i == INCREASE))))
+    matches!(
+        i,
+        SELECT | UPDATE_BINARY | UPDATE_RECORD | SEARCH | INCREASE
+    )
 }
 
 // Returns whether an instruction is an outgoing one.
 pub fn is_outgoing(i: usize) -> bool
     ensures { result ≡ spec.is_outgoing i }
 {
-    (i == READ_BINARY) | ((i == READ_RECORD) | (i == GET_RESPONSE))
+    matches!(i, READ_BINARY | READ_RECORD | GET_RESPONSE)
 }
 
 // Returns whether an instruction deactivates or activates.
 pub fn is_switch(i: usize) -> bool
     ensures { result ≡ spec.is_switch i }
 {
-    (i == DEACTIVATE) | (i == ACTIVATE)
+    matches!(i, DEACTIVATE | ACTIVATE)
 }
 
 // Returns whether there is such an instruction.
@@ -60,17 +62,18 @@ pub fn is_known(i: usize) -> bool
 pub fn is_binary(i: usize) -> bool
     ensures { result ≡ spec.is_binary i }
 {
-    (i == READ_BINARY) | (i == UPDATE_BINARY)
+    matches!(i, READ_BINARY | UPDATE_BINARY)
 }
 
 // Returns whether an instruction works on record files, INCREASE apart.
 pub fn is_record(i: usize) -> bool
     ensures { result ≡ spec.is_record i }
 {
-    (i == READ_RECORD) | ((i == UPDATE_RECORD) | (i == SEARCH))
+    matches!(i, READ_RECORD | UPDATE_RECORD | SEARCH)
 }
 
 // Returns the class of an instruction.
+#[tactic(auto, unfolding(crate::specs::Instructions::class_of, octets::specs::Choice::pick))]
 pub fn class_of(i: usize) -> usize
     ensures { result ≡ spec.class_of i }
 {
@@ -81,36 +84,29 @@ pub fn class_of(i: usize) -> usize
 }
 
 // Returns the case that an instruction needs, with its P2.
+#[tactic(auto, unfolding(crate::specs::Instructions::case_of, octets::specs::Choice::pick))]
 pub fn case_of(i: usize, p2: usize) -> usize
     ensures { result ≡ spec.case_of i p2 }
 {
-    if is_switch(i) {
-        return 1;
+    match i {
+        DEACTIVATE | ACTIVATE => 1,
+        READ_BINARY | READ_RECORD | GET_RESPONSE => 2,
+        UPDATE_BINARY | UPDATE_RECORD => 3,
+        SELECT if p2 == NO_DATA => 3,
+        _ => 4,
     }
-    if is_outgoing(i) {
-        return 2;
-    }
-    if (i == UPDATE_BINARY) | ((i == UPDATE_RECORD) | ((i == SELECT) & (p2 == NO_DATA))) {
-        return 3;
-    }
-    4
 }
 
 // Returns the NEVER bit that shuts an instruction out.
+#[tactic(auto, unfolding(crate::specs::Instructions::never_bit, octets::specs::Choice::pick))]
 pub fn never_bit(i: usize) -> usize
     ensures { (result ≡ spec.never_bit i) × (1 ≤ result) }
 {
-    if (i == READ_BINARY) | ((i == READ_RECORD) | (i == SEARCH)) {
-        return 1;
+    match i {
+        READ_BINARY | READ_RECORD | SEARCH => 1,
+        UPDATE_BINARY | UPDATE_RECORD => 2,
+        INCREASE => 4,
+        DEACTIVATE => 8,
+        _ => 16,
     }
-    if (i == UPDATE_BINARY) | (i == UPDATE_RECORD) {
-        return 2;
-    }
-    if i == INCREASE {
-        return 4;
-    }
-    if i == DEACTIVATE {
-        return 8;
-    }
-    16
 }
