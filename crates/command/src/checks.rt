@@ -31,13 +31,6 @@ pub enum Check {
     AnswerTooLong,
 }
 
-// What came of some checks, in their order: all passed, or this one was the first that failed.
-#[derive(Clone, Copy)]
-pub enum Checked {
-    Passed,
-    Failed(Check),
-}
-
 // Returns the word of a check that fails.
 #[tactic(auto, unfolding(crate::specs::Checks::check_word))]
 pub(crate) fn check_word(k: Check) -> usize

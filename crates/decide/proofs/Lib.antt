@@ -1,5 +1,4 @@
 pub mod Order
-pub mod Finds
 pub mod Costs
 pub mod Instructed
 pub mod Passing

@@ -1,11 +1,12 @@
 -- The first check of a list that fails, the checks behind the formal ones, and the kind of a file that record commands have passed. Assumes nothing.
-use mathlib.Core.Path.{◌≡◌, refl, sym, ◌∙◌}
+use mathlib.Core.Path.{◌≡◌}
 use mathlib.Core.Bool.{Bool, true, false, ◌||◌}
-use mathlib.Core.List.{List, [], ◌∷◌}
+use mathlib.Core.List.{List, ◌∷◌}
 use mathlib.Core.Logic.{⊎_elim}
 use Prim.Native.Nat.{ℕ}
 use lib.Dec.{eqb}
 use borrow.Author.Tests.{eqb-true}
+use Rattle.std.specs.Prelude.{Err}
 use Rattle.octets.specs.Choice.{pick}
 use Rattle.octets.proofs.Picks.{pick_true, pick-false, or_either}
 use Rattle.card.specs.declared.Row.{Row}
@@ -14,39 +15,18 @@ use Rattle.command.specs.Instructions as ins
 use Rattle.command.specs.Instructions.{is_record}
 use Rattle.plan.specs.Plans.{Situation}
 use Rattle.command.specs.declared.checks.Check.{Check}
-use Rattle.command.specs.declared.checks.Checked.TheVariants.{Passed, Failed}
 use Rattle.decide.specs.Order.{select_checks, response_checks, file_checks, later_checks}
 use Rattle.decide.specs.Fails.{fails, first_failing, kind_fits}
-use Rattle.decide.specs.Promised.{FirstOf}
 
 -- a check that does not fail is passed, and one that fails is the first
 module _ (w : Situation) (k : Check) (ks : List Check) where
   pub past : fails w k ≡ false → first_failing w (k ∷ ks) ≡ first_failing w ks
   unfolding first_failing
-  past h = pick-false (fails w k) (Failed k) (first_failing w ks) h
+  past h = pick-false (fails w k) (Err k) (first_failing w ks) h
 
-  pub first : fails w k ≡ true → first_failing w (k ∷ ks) ≡ Failed k
+  pub first : fails w k ≡ true → first_failing w (k ∷ ks) ≡ Err k
   unfolding first_failing
-  first h = pick_true (fails w k) (Failed k) (first_failing w ks) h
-
--- in every situation of which so much is known, the first of all checks that fails is the first of those left
-pub record Left (Known : Situation → Type 0) (all ks : List Check) : Type 0 where
-  pub same : (w : Situation) → Known w → first_failing w all ≡ first_failing w ks
-
-pub all_left : (Known : Situation → Type 0) (all : List Check) → Left Known all all
-all_left Known all = record { same = λ w so. refl }
-
--- what the next check finds passes it, or makes it the first that fails
-module _ {Known : Situation → Type 0} {all ks : List Check} {k : Check} {found : Bool} (left : Left Known all (k ∷ ks)) (finds : (w : Situation) → Known w → fails w k ≡ found) where
-  pub passes : found ≡ false → Left Known all ks
-  passes h = record { same = λ w so. left.same w so ∙ past w k ks (finds w so ∙ h) }
-
-  pub is-first : found ≡ true → FirstOf all Known (Failed k)
-  is-first h w so = sym (left.same w so ∙ first w k ks (finds w so ∙ h))
-
-pub none_left : {Known : Situation → Type 0} {all : List Check} → Left Known all [] → FirstOf all Known Passed
-unfolding first_failing
-none_left left w so = sym (left.same w so)
+  first h = pick_true (fails w k) (Err k) (first_failing w ks) h
 
 -- the checks behind the formal ones
 pub later-select : (i : ℕ) → i ≡ ins.select → later_checks i ≡ select_checks

@@ -11,6 +11,7 @@ use Prim.Native.Nat.{ℕ, ◌+◌, ◌≤◌, ◌<◌}
 use native.Mathlib.Omega.{arith}
 use lib.Dec.{leb, eqb}
 use borrow.Author.Tests.{leb-true, leb-false, eqb-true, eqb-false, not-false}
+use Rattle.std.specs.Prelude.{Result, Ok, Err}
 use Rattle.octets.specs.Choice.{pick}
 use Rattle.octets.proofs.Picks.{and_left, and_right, or_none}
 use Rattle.card.specs.declared.Row.{Row}
@@ -23,8 +24,6 @@ use Rattle.plan.specs.Files.{has_record}
 use Rattle.plan.specs.Plans.{Situation, named_by}
 use Rattle.command.specs.declared.checks.Check.{Check}
 use Rattle.command.specs.declared.checks.Check.TheVariants.{WrongCase, NoFile, WrongKind, OffsetOutside, NoRecord, WrongLength, JournalFull, AnswerTooLong}
-use Rattle.command.specs.declared.checks.Checked.{Checked}
-use Rattle.command.specs.declared.checks.Checked.TheVariants.{Passed, Failed}
 use Rattle.decide.specs.Order.{formal_checks, bound_checks, file_checks, order}
 use Rattle.decide.specs.Fails.{wrong_case, kind_fits, renews, offset_outside, no_record, length_fits, fails, first_failing}
 use Rattle.decide.proofs.Order.{later-file}
@@ -33,12 +32,12 @@ abbrev pub AllPass : Situation → List Check → Type 0
 AllPass w [] = Unit {0}
 AllPass w (k ∷ ks) = (fails w k ≡ false) × AllPass w ks
 
-first_passes : (k : Check) (rest : Checked) (b : Bool) → pick b (Failed k) rest ≡ Passed → (b ≡ false) × (rest ≡ Passed)
+first_passes : (k : Check) (rest : Result (Unit {0}) Check) (b : Bool) → pick b (Err k) rest ≡ Ok tt → (b ≡ false) × (rest ≡ Ok tt)
 unfolding pick
 first_passes k rest false h = (refl, h)
 first_passes k rest true h = absurd (let z : ◌≡◌ {A = ℕ} 0 1 = cc in omega arith)
 
-pub all_pass : (w : Situation) (ks : List Check) → first_failing w ks ≡ Passed → AllPass w ks
+pub all_pass : (w : Situation) (ks : List Check) → first_failing w ks ≡ Ok tt → AllPass w ks
 unfolding first_failing
 all_pass w [] h = tt
 all_pass w (k ∷ ks) h =
@@ -46,12 +45,12 @@ all_pass w (k ∷ ks) h =
     (f.0, all_pass w ks f.1)
 
 -- a check that is the first to fail does fail; so it is not the one of an answer that is too long
-first-fails : (k k' : Check) (rest : Checked) (b : Bool) → pick b (Failed k) rest ≡ Failed k' → ((b ≡ true) × (k ≡ k')) ⊎ (rest ≡ Failed k')
+first-fails : (k k' : Check) (rest : Result (Unit {0}) Check) (b : Bool) → pick b (Err k) rest ≡ Err k' → ((b ≡ true) × (k ≡ k')) ⊎ (rest ≡ Err k')
 unfolding pick
 first-fails k k' rest true h = inl (refl, cc)
 first-fails k k' rest false h = inr h
 
-pub failing_fails : (w : Situation) (ks : List Check) (k : Check) → first_failing w ks ≡ Failed k → fails w k ≡ true
+pub failing_fails : (w : Situation) (ks : List Check) (k : Check) → first_failing w ks ≡ Err k → fails w k ≡ true
 unfolding first_failing
 failing_fails w [] k h = absurd (let z : ◌≡◌ {A = ℕ} 0 1 = cc in omega arith)
 failing_fails w (x ∷ ks) k h =
@@ -60,7 +59,7 @@ failing_fails w (x ∷ ks) k h =
     (λ e. failing_fails w ks k e)
     (first-fails x k (first_failing w ks) (fails w x) h)
 
-pub never_too_long : {A : Type 0} (w : Situation) (ks : List Check) (k : Check) → first_failing w ks ≡ Failed k → k ≡ AnswerTooLong → A
+pub never_too_long : {A : Type 0} (w : Situation) (ks : List Check) (k : Check) → first_failing w ks ≡ Err k → k ≡ AnswerTooLong → A
 unfolding fails
 never_too_long w ks k h e = absurd (false≢true (failing_fails w ks AnswerTooLong (rw e at h)))
 
@@ -79,7 +78,7 @@ unfolding formal_checks file_checks bound_checks
 all_passed w (_, (_, (_, (_, (case, (_, (_, (file, (kind, (_, (_, (_, (offset, (named, (long, (_, (journal, _))))))))))))))))) =
     record { case = case; file = file; kind = kind; offset = offset; «record» = named; length = long; journal = journal }
 
-pub passed : (w : Situation) (i : ℕ) → eqb i ins.select ≡ false → eqb i ins.get_response ≡ false → first_failing w (order i) ≡ Passed → Passes w
+pub passed : (w : Situation) (i : ℕ) → eqb i ins.select ≡ false → eqb i ins.get_response ≡ false → first_failing w (order i) ≡ Ok tt → Passes w
 unfolding order
 passed w i a b h = all_passed w (all_pass w (formal_checks ++ file_checks) (rw (later-file i a b) at h))
 

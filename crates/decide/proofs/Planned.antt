@@ -12,6 +12,7 @@ use lib.Dec.{eqb}
 use lib.ListN.{length}
 use native.Mathlib.Omega.{arith}
 use borrow.Author.Tests.{eqb-false, not-false}
+use Rattle.std.specs.Prelude.{Ok}
 use Rattle.card.specs.declared.Row.{Row}
 use Rattle.card.specs.Row.{Card, row_of, has_records, activated, deactivated}
 use Rattle.card.specs.Sound.{record_count, sound_table}
@@ -20,7 +21,6 @@ use Rattle.session.specs.declared.Standing.{Standing}
 use Rattle.session.specs.Good.{Good}
 use Rattle.command.specs.declared.Format.{Format}
 use Rattle.command.specs.declared.Command.{Command}
-use Rattle.command.specs.declared.checks.Checked.TheVariants.{Passed}
 use Rattle.command.specs.Instructions as ins
 use Rattle.command.specs.Instructions.{is_known, is_record}
 use Rattle.plan.specs.Files.{file_at}
@@ -38,7 +38,7 @@ waits_passed : (w : Situation) → AllPass w (formal_checks ++ response_checks) 
 unfolding formal_checks response_checks fails
 waits_passed w (_, (_, (_, (_, (_, (_, (_, (waits, _)))))))) = waits
 
-response-waits : (w : Situation) → (is_known w.command.instruction ≡ true → w.command.instruction ≡ ins.get_response) → first_failing w (order w.command.instruction) ≡ Passed → 1 ≤ w.session.valid
+response-waits : (w : Situation) → (is_known w.command.instruction ≡ true → w.command.instruction ≡ ins.get_response) → first_failing w (order w.command.instruction) ≡ Ok tt → 1 ≤ w.session.valid
 unfolding order formal_checks fails
 response-waits w last h =
     let i = w.command.instruction in
@@ -101,7 +101,7 @@ module _ (format : Format) (domain : ℕ) (c : Command) («data» : List ℕ) (s
   w = situation format domain c «data» s card
 
   -- by its instruction
-  module _ (brief : length «data» ≤ 255) (h : first_failing w (order c.instruction) ≡ Passed) where
+  module _ (brief : length «data» ≤ 255) (h : first_failing w (order c.instruction) ≡ Ok tt) where
     checked : {x : ℕ} → c.instruction ≡ x → eqb x ins.select ≡ false → eqb x ins.get_response ≡ false → Passes w
     checked e a b = passed w c.instruction (rw e a) (rw e b) h
 

@@ -14,6 +14,7 @@ use native.Mathlib.Omega.{arith}
 use lib.ListN.{length}
 use lib.Dec.{leb, ltb, eqb}
 use borrow.Author.Tests.{leb-true, ltb-false, eqb-true, le-ltb, ne_eqb}
+use Rattle.std.specs.Prelude.{Result, Ok, Err}
 use Rattle.octets.specs.Choice.{pick}
 use Rattle.octets.proofs.Picks.{pick_true, pick-false, and_left, and_right, on_pick, either}
 use Rattle.card.specs.declared.tree.Found.TheVariants as Found
@@ -28,8 +29,6 @@ use Rattle.plan.specs.Files.{File, sum_too_long}
 use Rattle.plan.specs.Plans.{Situation, select_entry, select, get_response, done_by}
 use Rattle.command.specs.declared.checks.Check.{Check}
 use Rattle.command.specs.declared.checks.Check.TheVariants.{BrokenForm, UnknownInstruction, WrongPathLength, NotFound, NothingWaits, MoreThanWaits, SumTooLong, JournalFull}
-use Rattle.command.specs.declared.checks.Checked.{Checked}
-use Rattle.command.specs.declared.checks.Checked.TheVariants.{Passed, Failed}
 use Rattle.decide.specs.Fails.{fails, first_failing, path_length_fits, is_found, journal_full, unknown_check}
 use Rattle.decide.specs.Promised.{roomed, responded, behind_form, roomless, Decided}
 use Rattle.decide.specs.Order.{select_checks, response_checks, bound_checks, file_checks, later_checks, formal_checks, order}
@@ -43,7 +42,7 @@ use Rattle.plan.proofs.Inside.{none-fits}
 
 module _ (w : Situation) where
   -- the first check of a list decides, or those behind it
-  chosen : (v : Bool) (o : Checked) (k : Check) → decided w (pick v (Failed k) o) ≡ pick v (failed w.session k) (decided w o)
+  chosen : (v : Bool) (o : Result (Unit {0}) Check) (k : Check) → decided w (pick v (Err k) o) ≡ pick v (failed w.session k) (decided w o)
   unfolding decided pick
   chosen true o k = refl
   chosen false o k = refl
@@ -60,7 +59,7 @@ module _ (w : Situation) where
   two_checks a b = first_of a (b ∷ []) ∙ ap (pick (fails w a) (failed w.session a)) (one_check b)
 
   -- a check that fails in front of others is the first, and others decide behind those that are passed
-  pub first-before : (a b : List Check) (k : Check) → Failed k ≡ first_failing w a → Failed k ≡ first_failing w (a ++ b)
+  pub first-before : (a b : List Check) (k : Check) → Err k ≡ first_failing w a → Err k ≡ first_failing w (a ++ b)
   unfolding first_failing
   first-before [] b k e = absurd (let z : ◌≡◌ {A = ℕ} 0 1 = cc in omega arith)
   first-before (x ∷ a) b k e =
@@ -74,20 +73,16 @@ module _ (w : Situation) where
   first-behind (k ∷ a) b h = past w k (a ++ b) h.0 ∙ first-behind a b h.1
 
   -- what comes of the first check that fails
-  first_decides : (a b : List Check) (k : Check) → Failed k ≡ first_failing w a → failed w.session k ≡ decided w (first_failing w (a ++ b))
+  first_decides : (a b : List Check) (k : Check) → Err k ≡ first_failing w a → failed w.session k ≡ decided w (first_failing w (a ++ b))
   unfolding decided
   first_decides a b k e = ap (decided w) (first-before a b k e)
 
-  pass_behind : (a b : List Check) → AllPass w (a ++ b) → AllPass w b
-  pass_behind [] b h = h
-  pass_behind (k ∷ a) b h = pass_behind a b h.1
-
 -- what comes behind the formal checks
-pub behind : (w : Situation) → Passed ≡ first_failing w formal_checks → behind_form w ≡ planned w
+pub behind : (w : Situation) → Ok tt ≡ first_failing w formal_checks → behind_form w ≡ planned w
 unfolding behind_form planned order
 behind w h = sym (ap (decided w) (first-behind w formal_checks (later_checks w.command.instruction) (all_pass w formal_checks (sym h))))
 
-pub form_fails : (w : Situation) (k : Check) → Failed k ≡ first_failing w formal_checks → failed w.session k ≡ planned w
+pub form_fails : (w : Situation) (k : Check) → Err k ≡ first_failing w formal_checks → failed w.session k ≡ planned w
 unfolding planned order
 form_fails w k e = first_decides w formal_checks (later_checks w.command.instruction) k e
 
@@ -150,28 +145,30 @@ pub unknown_fails : (w : Situation) → is_known w.command.instruction ≡ false
 unfolding unknown_check
 unknown_fails w h = on_pick (λ (k : Check). failed w.session k ≡ planned w) w.command.whole UnknownInstruction BrokenForm (λ y. form_fails w UnknownInstruction (unknown y)) (λ n. form_fails w BrokenForm (broken n))
   where
-    broken : w.command.whole ≡ false → Failed BrokenForm ≡ first_failing w formal_checks
+    broken : w.command.whole ≡ false → Err BrokenForm ≡ first_failing w formal_checks
     broken n = unfold formal_checks fails in sym (first w BrokenForm _ (ap not n))
 
-    unknown : w.command.whole ≡ true → Failed UnknownInstruction ≡ first_failing w formal_checks
+    unknown : w.command.whole ≡ true → Err UnknownInstruction ≡ first_failing w formal_checks
     unknown y = unfold formal_checks fails in sym (past w BrokenForm _ (ap not y) ∙ first w UnknownInstruction _ (ap not h))
 
--- a file command, up to the lengths of its file and its records
+-- a file command, up to the lengths of its file and its records: a formal check fails, or all are passed
 module _ (w : Situation) where
-  pub check_fails : (k : Check) → Failed k ≡ first_failing w (formal_checks ++ bound_checks) → failed w.session k ≡ roomless w
-  unfolding roomless formal_checks bound_checks
-  check_fails k e = first_decides w (formal_checks ++ bound_checks) (SumTooLong ∷ []) k e
+  pub form-roomless : (k : Check) → Err k ≡ first_failing w formal_checks → failed w.session k ≡ roomless w
+  unfolding roomless
+  form-roomless k e = first_decides w formal_checks (bound_checks ++ (SumTooLong ∷ [])) k e
 
-  module _ (e : Passed ≡ first_failing w (formal_checks ++ bound_checks)) where
-    check_passes : AllPass w (formal_checks ++ bound_checks)
-    check_passes = all_pass w (formal_checks ++ bound_checks) (sym e)
+module _ (w : Situation) (form : Ok tt ≡ first_failing w formal_checks) where
+  behind-form : (ks : List Check) → first_failing w (formal_checks ++ ks) ≡ first_failing w ks
+  behind-form ks = first-behind w formal_checks ks (all_pass w formal_checks (sym form))
 
-    pub bounds_pass : AllPass w bound_checks
-    bounds_pass = pass_behind w formal_checks bound_checks check_passes
+  pub check_fails : (k : Check) → Err k ≡ first_failing w bound_checks → failed w.session k ≡ roomless w
+  unfolding roomless
+  check_fails k e = first_decides w bound_checks (SumTooLong ∷ []) k e ∙ sym (ap (decided w) (behind-form (bound_checks ++ (SumTooLong ∷ []))))
 
-    pub roomless-done : summed w.command.instruction w.file w.«data» w.session (done_by w.command.instruction w) ≡ roomless w
-    unfolding summed fails roomless formal_checks bound_checks
-    roomless-done = sym (ap (decided w) (first-behind w (formal_checks ++ bound_checks) (SumTooLong ∷ []) check_passes) ∙ one_check w SumTooLong)
+  pub roomless-done : Ok tt ≡ first_failing w bound_checks → summed w.command.instruction w.file w.«data» w.session (done_by w.command.instruction w) ≡ roomless w
+  unfolding summed fails roomless
+  roomless-done e =
+      sym (ap (decided w) (behind-form (bound_checks ++ (SumTooLong ∷ [])) ∙ first-behind w bound_checks (SumTooLong ∷ []) (all_pass w bound_checks (sym e))) ∙ one_check w SumTooLong)
 
 -- a file command with the journal's room
 module _ (s : Standing) (used room : ℕ) (h : used ≤ room) where

@@ -6,6 +6,7 @@ use Prim.Native.Nat.{ℕ}
 use native.Mathlib.Omega.{arith}
 use lib.Dec.{eqb}
 use borrow.Author.Tests.{ltb-false, eqb-true}
+use Rattle.std.specs.Prelude.{Ok}
 use Rattle.octets.proofs.Picks.{on_pick, either}
 use Rattle.octets.specs.Choice.{pick}
 use Rattle.card.specs.declared.Row.{Row}
@@ -19,7 +20,6 @@ use Rattle.session.specs.declared.Standing.{Standing}
 use Rattle.command.specs.declared.Format.{Format}
 use Rattle.command.specs.declared.Format.TheVariants.{Compact, Expanded}
 use Rattle.command.specs.declared.Command.{Command}
-use Rattle.command.specs.declared.checks.Checked.TheVariants.{Passed}
 use Rattle.command.specs.Instructions as ins
 use Rattle.plan.specs.Ends.{Plan, failed, done, produced}
 use Rattle.plan.specs.Files.{file_at}
@@ -63,7 +63,7 @@ module _ (format : Format) (domain : ℕ) (c : Command) («data» : List ℕ) (s
   abbrev w : Situation
   w = situation format domain c «data» s card
 
-  done-room : first_failing w (order c.instruction) ≡ Passed → Room (done_by c.instruction w).writes
+  done-room : first_failing w (order c.instruction) ≡ Ok tt → Room (done_by c.instruction w).writes
   done-room h =
       let i = c.instruction in
       ⊎_elim

@@ -1,12 +1,11 @@
 -- One command: it ends with the word of the first check that fails, or does what its instruction says.
-use Rattle.std.specs.Prelude.{ℕ, List}
+use Rattle.std.specs.Prelude.{ℕ, List, Result, Ok, Err}
 use Rattle.card.specs.Row.{Card}
 use Rattle.session.specs.declared.Standing.{Standing}
 use Rattle.session.specs.Select.{find, row_found}
 use Rattle.command.specs.declared.Format.{Format}
 use Rattle.command.specs.declared.Command.{Command}
-use Rattle.command.specs.declared.checks.Checked.{Checked}
-use Rattle.command.specs.declared.checks.Checked.TheVariants.{Passed, Failed}
+use Rattle.command.specs.declared.checks.Check.{Check}
 use Rattle.plan.specs.Ends.{Plan, failed}
 use Rattle.plan.specs.Files.{target, file_at}
 use Rattle.plan.specs.Plans.{Situation, done_by}
@@ -28,9 +27,9 @@ situation format domain c «data» s card =
     }
 
 -- what comes of checks that are passed, or of the first that fails
-unfoldable pub decided : Situation → Checked → Plan
-decided w Passed = done_by w.command.instruction w
-decided w (Failed k) = failed w.session k
+unfoldable pub decided : Situation → Result (Unit {0}) Check → Plan
+decided w (Ok passed) = done_by w.command.instruction w
+decided w (Err k) = failed w.session k
 
 -- what a command does in a situation
 unfoldable pub planned : Situation → Plan

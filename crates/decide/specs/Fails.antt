@@ -1,5 +1,5 @@
 -- When each check fails, and the first of a list that does.
-use Rattle.std.specs.Prelude.{ℕ, ◌+◌, ◌/◌, ◌%◌, Bool, true, false, not, ◌&&◌, ◌||◌, List, [], ◌∷◌, length, leb, ltb, eqb}
+use Rattle.std.specs.Prelude.{ℕ, ◌+◌, ◌/◌, ◌%◌, Bool, true, false, not, ◌&&◌, ◌||◌, List, [], ◌∷◌, length, leb, ltb, eqb, Result, Ok, Err}
 use Rattle.octets.specs.Choice.{pick}
 use Rattle.card.specs.declared.Row.{Row}
 use Rattle.card.specs.declared.tree.Found.{Found}
@@ -10,8 +10,6 @@ use Rattle.session.specs.Session.{none}
 use Rattle.command.specs.declared.Command.{Command}
 use Rattle.command.specs.declared.checks.Check.{Check}
 use Rattle.command.specs.declared.checks.Check.TheVariants.{BrokenForm, UnknownInstruction, WrongClass, BytesAfter, WrongCase, WrongParameters, WrongDomain, WrongPathLength, NotFound, NothingWaits, MoreThanWaits, NoFile, WrongKind, WrongMode, Deactivated, Never, OffsetOutside, NoRecord, WrongLength, SumTooLong, JournalFull, AnswerTooLong}
-use Rattle.command.specs.declared.checks.Checked.{Checked}
-use Rattle.command.specs.declared.checks.Checked.TheVariants.{Passed, Failed}
 use Rattle.command.specs.Instructions as ins
 use Rattle.command.specs.Instructions.{carries_data, is_outgoing, is_switch, is_known, is_binary, is_record, class_of, case_of, no_data, with_fcp, never_bit}
 use Rattle.plan.specs.Files.{mode_next, mode_previous, mode_absolute, search_forward, search_backward, has_record, longest_increase, sum_too_long}
@@ -137,7 +135,7 @@ fails w AnswerTooLong = false
 unfoldable pub unknown_check : Command → Check
 unknown_check c = pick c.whole UnknownInstruction BrokenForm
 
--- the first check of a list that fails
-unfoldable pub first_failing : Situation → List Check → Checked
-first_failing w [] = Passed
-first_failing w (k ∷ ks) = pick (fails w k) (Failed k) (first_failing w ks)
+-- the first check of a list that fails is the error; where none does, all are passed
+unfoldable pub first_failing : Situation → List Check → Result (Unit {0}) Check
+first_failing w [] = Ok tt
+first_failing w (k ∷ ks) = pick (fails w k) (Err k) (first_failing w ks)

@@ -1,6 +1,6 @@
 -- What promises speak of besides the rules: what the checks look at, what deciding a command asks for, what it comes to without and
 -- with the journal's room, and what is decided.
-use Rattle.std.specs.Prelude.{ℕ, ◌+◌, ◌≤◌, ◌<◌, ◌≡◌, true, List, [], ◌∷◌, ◌++◌, length, ltb, eqb}
+use Rattle.std.specs.Prelude.{ℕ, ◌+◌, ◌≤◌, ◌<◌, ◌≡◌, Bool, true, not, ◌&&◌, List, [], ◌∷◌, ◌++◌, length, ltb, eqb, Result}
 use Rattle.octets.specs.Choice.{pick}
 use Rattle.card.specs.declared.Row.{Row}
 use Rattle.card.specs.declared.tree.Found.TheVariants.{At}
@@ -18,8 +18,8 @@ use Rattle.command.specs.declared.Command.{Command}
 use Rattle.command.specs.declared.Format.{Format}
 use Rattle.command.specs.declared.checks.Check.{Check}
 use Rattle.command.specs.declared.checks.Check.TheVariants.{NothingWaits, MoreThanWaits, SumTooLong, JournalFull}
-use Rattle.command.specs.declared.checks.Checked.{Checked}
 use Rattle.command.specs.Instructions as ins
+use Rattle.command.specs.Instructions.{is_known}
 use Rattle.command.specs.Promised.{OfBytes}
 use Rattle.plan.specs.declared.Change.{Change}
 use Rattle.plan.specs.declared.Decision.{Decision}
@@ -31,7 +31,7 @@ use Rattle.decide.specs.Fails.{first_failing}
 use Rattle.decide.specs.Decisions.{situation, decided}
 
 -- what came of a list of checks is what comes of it in every situation of which `Known` holds
-abbrev pub FirstOf : List Check → (Situation → Type 0) → Checked → Type 0
+abbrev pub FirstOf : List Check → (Situation → Type 0) → Result (Unit {0}) Check → Type 0
 FirstOf ks Known r = (w : Situation) → Known w → r ≡ first_failing w ks
 
 -- what may be known of a situation: the command and how many data bytes it has; the session, and the row of the file that it works on
@@ -52,19 +52,20 @@ pub record OfSelect (format : Format) (c : Command) («data» : List ℕ) (s : S
   pub found : w.found ≡ find t s.root s.directory c.p1 «data»
   pub row : w.row ≡ row_found t (find t s.root s.directory c.p1 «data»)
 
--- what the formal checks look at; what the checks on a file look at, up to the lengths; and both
+-- what the formal checks look at, and what the checks on a file look at, up to the lengths
 abbrev pub Formal : Command → ℕ → ℕ → Situation → Type 0
 Formal c lc domain w = OfCommand c lc w × (w.domain ≡ domain)
 
 abbrev pub Bound : Command → ℕ → Standing → Row → Situation → Type 0
 Bound c lc s r w = OfCommand c lc w × OnFile s r w
 
-abbrev pub Whole : Command → ℕ → ℕ → Standing → Row → Situation → Type 0
-Whole c lc domain s r w = Formal c lc domain w × OnFile s r w
-
 -- what the checks on a file go by: the command's instruction, that the file's records are not empty, and that the command's numbers are bytes
 abbrev pub FileCheckAsks : ℕ → Command → ℕ → Row → Type 0
 FileCheckAsks i c lc r = (c.instruction ≡ i) × (has_records r ≡ true → 1 ≤ r.record_length) × OfBytes c lc
+
+-- whether an instruction works on a file: each does, but SELECT and GET RESPONSE
+abbrev pub is_of_file : ℕ → Bool
+is_of_file i = is_known i && (not (eqb i ins.select) && not (eqb i ins.get_response))
 
 -- an entry that SELECT finds is one of the table, its number is a byte, and its row has an FCP
 pub record FoundFits (t : List ℕ) (e : ℕ) : Type 0 where

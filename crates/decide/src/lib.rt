@@ -16,8 +16,9 @@ ghost use Rattle.plan.specs.Promised.{writes_of, plan_of, Fits, CostOfAsks};
 ghost use Rattle.decide.specs.Promised.{OfSelect, roomed, responded, DecideSelectAsks, WithRoomAsks, DecideAsks, Decided};
 
 use crate::checks::{formal_check, path_length_fits, unknown_check};
+use crate::file::decide_on_file;
 use card::tree::Found;
-use command::checks::{Check, Checked};
+use command::checks::Check;
 use command::instruction::{
     ACTIVATE, DEACTIVATE, GET_RESPONSE, INCREASE, READ_BINARY, READ_RECORD, SEARCH, SELECT,
     UPDATE_BINARY, UPDATE_RECORD,
@@ -29,6 +30,7 @@ use plan::{Change, Decision, failed, waited};
 use session::Standing;
 
 // Returns what is decided of GET RESPONSE, after the formal checks.
+#[tactic(auto, unfolding(crate::specs::Promised::responded, plan::specs::Plans::get_response, octets::specs::Choice::pick))]
 fn get_response(c: Command, s: Standing) -> Decision
     ensures { ((«data» bytes : List ℕ) → plan_of result «data» bytes ≡ responded c s) × (result.change ≡ Change.Nothing) }
 {
@@ -74,6 +76,7 @@ fn decide_select(
 }
 
 // Returns how many journal bytes a change takes, with `lc` data bytes.
+#[tactic(auto, unfolding(plan::specs::Promised::CostOfAsks, plan::specs::Promised::writes_of, plan::specs::Promised::record_writes, journal::specs::Changes::cost))]
 fn cost_of(change: Change, lc: usize) -> usize
     requires { (lc < 256) × CostOfAsks change }
     ensures { ((«data» bytes : List ℕ) → length «data» ≡ lc → length bytes ≡ most_waiting → result ≡ cost (writes_of change «data» bytes)) × (result < 65536) }
@@ -88,6 +91,7 @@ fn cost_of(change: Change, lc: usize) -> usize
 }
 
 // Returns a decision, or 6581 where the journal has no room for what it writes.
+#[tactic(auto, unfolding(crate::specs::Promised::roomed, plan::specs::Promised::plan_of, octets::specs::Choice::pick))]
 fn with_room(d: Decision, s: Standing, lc: usize, used: usize, room: usize) -> Decision
     requires { WithRoomAsks d.change lc used room }
     ensures { ((«data» bytes : List ℕ) → length «data» ≡ lc → length bytes ≡ most_waiting → plan_of result «data» bytes ≡ roomed used room s (plan_of d «data» bytes)) × ((t f : ℕ) → Fits t f lc d.change → Fits t f lc result.change) }
@@ -114,53 +118,38 @@ pub fn decide(
     requires { DecideAsks (lent table.now files.now journal.now) s c (length «data».now) × (length made.old ≡ most_waiting) }
     ensures { Decided (lent table.now files.now journal.now) «data».now made.new (planned (situation format domain c «data».now s (lent table.now files.now journal.now))) result }
 {
-    let i = c.instruction;
     let lc = data.len();
-    if i == SELECT {
-        if let Checked::Failed(k) = formal_check(SELECT, c, lc, domain) {
-            return failed(s, k);
-        }
-        return decide_select(format, c, data, s, table, made);
+    match c.instruction {
+        SELECT => match formal_check::<SELECT>(c, lc, domain) {
+            Ok(()) => decide_select(format, c, data, s, table, made),
+            Err(k) => failed(s, k),
+        },
+        GET_RESPONSE => match formal_check::<GET_RESPONSE>(c, lc, domain) {
+            Ok(()) => get_response(c, s),
+            Err(k) => failed(s, k),
+        },
+        READ_BINARY => decide_on_file::<READ_BINARY>(
+            format, domain, c, data, s, table, files, journal, made,
+        ),
+        UPDATE_BINARY => decide_on_file::<UPDATE_BINARY>(
+            format, domain, c, data, s, table, files, journal, made,
+        ),
+        READ_RECORD => decide_on_file::<READ_RECORD>(
+            format, domain, c, data, s, table, files, journal, made,
+        ),
+        UPDATE_RECORD => decide_on_file::<UPDATE_RECORD>(
+            format, domain, c, data, s, table, files, journal, made,
+        ),
+        SEARCH => decide_on_file::<SEARCH>(format, domain, c, data, s, table, files, journal, made),
+        INCREASE => decide_on_file::<INCREASE>(
+            format, domain, c, data, s, table, files, journal, made,
+        ),
+        DEACTIVATE => decide_on_file::<DEACTIVATE>(
+            format, domain, c, data, s, table, files, journal, made,
+        ),
+        ACTIVATE => decide_on_file::<ACTIVATE>(
+            format, domain, c, data, s, table, files, journal, made,
+        ),
+        _ => failed(s, unknown_check(c)),
     }
-    if i == GET_RESPONSE {
-        if let Checked::Failed(k) = formal_check(GET_RESPONSE, c, lc, domain) {
-            return failed(s, k);
-        }
-        return get_response(c, s);
-    }
-    let used = journal::read::head_of(journal).used;
-    let room = journal::read::room_of(journal);
-    if i == READ_BINARY {
-        let d = file::read_binary(format, domain, c, data, s, table, files);
-        return with_room(d, s, lc, used, room);
-    }
-    if i == UPDATE_BINARY {
-        let d = file::update_binary(domain, c, data, s, table, files);
-        return with_room(d, s, lc, used, room);
-    }
-    if i == READ_RECORD {
-        let d = file::read_record(domain, c, data, s, table, files);
-        return with_room(d, s, lc, used, room);
-    }
-    if i == UPDATE_RECORD {
-        let d = file::update_record(domain, c, data, s, table, files);
-        return with_room(d, s, lc, used, room);
-    }
-    if i == SEARCH {
-        let d = file::search(format, domain, c, data, s, table, files, made);
-        return with_room(d, s, lc, used, room);
-    }
-    if i == INCREASE {
-        let d = file::increase(format, domain, c, data, s, table, files, made);
-        return with_room(d, s, lc, used, room);
-    }
-    if i == DEACTIVATE {
-        let d = file::deactivate(domain, c, data, s, table, files);
-        return with_room(d, s, lc, used, room);
-    }
-    if i == ACTIVATE {
-        let d = file::activate(domain, c, data, s, table, files);
-        return with_room(d, s, lc, used, room);
-    }
-    failed(s, unknown_check(c))
 }

@@ -4,7 +4,7 @@
 -- What a call gives is said in `Calls`, and the contracts of the three calls cite it for the answer and for every byte of each lent
 -- memory. Here stands what it comes to: detection, the commands that run and their count, the fresh start, that an error changes
 -- nothing, the marked cases, the cyclic law.
-use Rattle.std.specs.Prelude.{ℕ, ◌+◌, ◌-◌, ◌*◌, ◌%◌, ◌≤◌, ◌<◌, Bool, List, [], ◌∷◌, ◌≡◌, length, Option, Some, None}
+use Rattle.std.specs.Prelude.{ℕ, ◌+◌, ◌-◌, ◌*◌, ◌%◌, ◌≤◌, ◌<◌, Bool, List, [], ◌∷◌, ◌≡◌, length, Option, Some, None, Ok}
 use Rattle.octets.specs.Bytes.{AllBytes, overwrite, zeros}
 use Rattle.card.specs.declared.Row.{Row}
 use Rattle.card.specs.Row.{Card}
@@ -17,7 +17,6 @@ use Rattle.journal.specs.Changes.{with_mark}
 use Rattle.session.specs.Session as session
 use Rattle.session.specs.Session.{start}
 use Rattle.command.specs.declared.checks.Check.{Check}
-use Rattle.command.specs.declared.checks.Checked.TheVariants.{Passed}
 use Rattle.command.specs.declared.Format.{Format}
 use Rattle.command.specs.declared.Format.TheVariants.{Compact, Expanded}
 use Rattle.command.specs.declared.Outcome.TheVariants.{Error}
@@ -64,7 +63,7 @@ pub record ExpandedRuns (template : Option Template) (script : List ℕ) (applic
 pub record WorksOnFile (w : Situation) : Type 0 where
   pub not_select : w.command.instruction ≡ ins.select → ⊥
   pub not_get_response : w.command.instruction ≡ ins.get_response → ⊥
-  pub formal : first_failing w formal_checks ≡ Passed
+  pub formal : first_failing w formal_checks ≡ Ok tt
 
 -- the situation of a script's first command
 abbrev pub first_situation : Format → Arguments → Read → Card → Situation
