@@ -50,6 +50,9 @@ pub record Raised (files : List ℕ) (s : Standing) (r : Row) (off : ℕ) (f : F
   pub entry : f.entry ≡ s.file
   pub content : f.content ≡ part files r.start r.size
 
+pub raised : {files : List ℕ} {s : Standing} {r : Row} {off : ℕ} {f : File} → (off ≡ record_offset r 1) × (off + r.record_length ≤ r.size) → r.start + r.size ≤ length files → f.row ≡ r → f.entry ≡ s.file → f.content ≡ part files r.start r.size → Raised files s r off f
+raised o lies row entry content = record { at = o.0; inside = o.1; lies = lies; row = row; entry = entry; content = content }
+
 module _ {files : List ℕ} {s : Standing} {r : Row} {off : ℕ} {f : File} (h : Raised files s r off f) («data» : List ℕ) where
   abbrev added : ℕ
   added = value (first files r off) + value «data»

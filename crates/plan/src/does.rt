@@ -1,5 +1,5 @@
 // What each instruction does where its checks hold, before anything is stored. What it makes is put at the start of lent bytes.
-ghost use Rattle.std.specs.Prelude.{◌≡◌, List, ℕ, ◌≤◌, ◌<◌, min, length};
+ghost use Rattle.std.specs.Prelude.{◌≡◌, List, ℕ, ◌≤◌, ◌<◌, length};
 ghost use Rattle.octets.specs.Bytes.{part};
 ghost use Rattle.card.specs.Row.{place_of_newest, place_of_state};
 ghost use Rattle.card.specs.Promised.{RowFits, RecordOffsetAsks};
@@ -19,6 +19,7 @@ use command::{Command, Format};
 use session::Standing;
 
 // Returns the word of a SELECT that finds an entry.
+#[tactic(auto, unfolding(crate::specs::Plans::select_word, octets::specs::Choice::pick))]
 fn select_word(r: Row) -> usize
     ensures { result ≡ plans.select_word r }
 {
@@ -29,6 +30,7 @@ fn select_word(r: Row) -> usize
 }
 
 // Returns what SELECT of entry e, with its row r, does; an FCP is put at the start of `made`.
+#[tactic(auto, unfolding(crate::specs::Plans::select_word, crate::specs::Plans::select_entry, crate::specs::Promised::writes_of, octets::specs::Choice::pick))]
 pub fn select_entry(
     format: Format,
     s: Standing,
@@ -49,7 +51,8 @@ pub fn select_entry(
     produced(format, next, n, word, Change::Nothing)
 }
 
-// Returns the most bytes that P3 00 reads.
+// Returns the most bytes that P3 00 reads. Each format has an arm of its own, since another one may read another number.
+#[tactic(auto, unfolding(crate::specs::Plans::most_read))]
 fn most_read(format: Format) -> usize
     ensures { result ≡ plans.most_read format }
 {
@@ -59,17 +62,8 @@ fn most_read(format: Format) -> usize
     }
 }
 
-// Returns the smaller of two numbers.
-fn least(a: usize, b: usize) -> usize
-    ensures { result ≡ min a b }
-{
-    if a <= b {
-        return a;
-    }
-    b
-}
-
 // Returns what READ BINARY does.
+#[tactic(auto, unfolding(crate::specs::Plans::read_binary, crate::specs::Plans::offset_of, octets::specs::Choice::pick))]
 pub fn read_binary(format: Format, c: Command, s: Standing, r: Row) -> Decision
     requires { ReadBinaryAsks c r }
     ensures { ((«data» bytes : List ℕ) (f : File) → f.row ≡ r → plan_of result «data» bytes ≡ plans.read_binary format c s f) × (result.change ≡ Change.Nothing) }
@@ -78,7 +72,7 @@ pub fn read_binary(format: Format, c: Command, s: Standing, r: Row) -> Decision
     let place = r.start + offset;
     let left = r.size - offset;
     if c.p3 == 0 {
-        return handed(s, NORMAL, place, least(left, most_read(format)));
+        return handed(s, NORMAL, place, left.min(most_read(format)));
     }
     if c.p3 <= left {
         return handed(s, NORMAL, place, c.p3);
@@ -87,6 +81,7 @@ pub fn read_binary(format: Format, c: Command, s: Standing, r: Row) -> Decision
 }
 
 // Returns what UPDATE BINARY does.
+#[tactic(auto, unfolding(crate::specs::Plans::update_binary, crate::specs::Plans::offset_of, crate::specs::Files::write_in, crate::specs::Promised::writes_of))]
 pub fn update_binary(c: Command, s: Standing, r: Row) -> Decision
     requires { (c.p1 < 256) × (c.p2 < 256) }
     ensures { ((«data» bytes : List ℕ) (f : File) → f.row ≡ r → plan_of result «data» bytes ≡ plans.update_binary c «data» s f) × (result.change ≡ Change.Content r.start r.size (plans.offset_of c)) }
@@ -96,6 +91,7 @@ pub fn update_binary(c: Command, s: Standing, r: Row) -> Decision
 }
 
 // Returns what READ RECORD does.
+#[tactic(auto, using(crate::proofs::Made::after_small), unfolding(crate::specs::Plans::read_record, crate::specs::Plans::at_named))]
 pub fn read_record(c: Command, s: Standing, r: Row) -> Decision
     requires { RecordOffsetAsks r (plans.named_by c s.record_number r) × (record_count r < 256) }
     ensures { ((«data» bytes : List ℕ) (f : File) → f.row ≡ r → plan_of result «data» bytes ≡ plans.read_record c s f) × (result.change ≡ Change.Nothing) }
@@ -108,6 +104,7 @@ pub fn read_record(c: Command, s: Standing, r: Row) -> Decision
 }
 
 // Returns the new record of a cyclic file, at the oldest place.
+#[tactic(auto, unfolding(crate::specs::Promised::newest_of))]
 fn new_record(file: usize, r: Row) -> NewRecord
     requires { RowFits r × (1 ≤ r.record_length) × (1 ≤ record_count r) }
     ensures { result ≡ newest_of file r }
@@ -122,6 +119,7 @@ fn new_record(file: usize, r: Row) -> NewRecord
 }
 
 // Returns what UPDATE RECORD does.
+#[tactic(auto, using(crate::proofs::Made::after_small), unfolding(crate::specs::Plans::update_record, crate::specs::Files::new_record, crate::specs::Plans::at_named, crate::specs::Files::write_in, crate::specs::Promised::record_writes, crate::specs::Promised::writes_of, crate::specs::Promised::newest_of, crate::specs::Promised::update_change, octets::specs::Choice::pick))]
 pub fn update_record(c: Command, s: Standing, r: Row) -> Decision
     requires { UpdateRecordAsks c s r }
     ensures { ((«data» bytes : List ℕ) (f : File) → f.row ≡ r → f.entry ≡ s.file → plan_of result «data» bytes ≡ plans.update_record c «data» s f) × (result.change ≡ update_change c s r) }
@@ -190,6 +188,7 @@ pub fn increase(
 }
 
 // Returns what DEACTIVATE and ACTIVATE do: the file gets the state `state`.
+#[tactic(auto, unfolding(crate::specs::Plans::switch, crate::specs::Promised::writes_of))]
 pub fn switch(state: usize, s: Standing) -> Decision
     requires { s.file < 64 }
     ensures { ((«data» bytes : List ℕ) (f : File) → f.entry ≡ s.file → plan_of result «data» bytes ≡ plans.switch state s f) × (result.change ≡ Change.TableByte (place_of_state s.file) state) }

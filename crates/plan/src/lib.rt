@@ -56,6 +56,7 @@ pub fn target(s: Standing) -> usize
 }
 
 // Returns the decision of a command that ends with the word of a check that failed, changing nothing.
+#[tactic(auto, unfolding(crate::specs::Promised::plan_of, crate::specs::Promised::writes_of, crate::specs::Ends::failed))]
 pub fn failed(s: Standing, k: Check) -> Decision
     ensures { ((«data» bytes : List ℕ) → plan_of result «data» bytes ≡ spec.failed s k) × (result.change ≡ Change.Nothing) }
 {
@@ -68,6 +69,7 @@ pub fn failed(s: Standing, k: Check) -> Decision
 }
 
 // Returns the decision of a command that ends well, with a word and no data.
+#[tactic(auto, unfolding(crate::specs::Promised::plan_of, crate::specs::Promised::writes_of, crate::specs::Ends::done))]
 fn done(s: Standing, word: usize, change: Change) -> Decision
     ensures { ((«data» bytes : List ℕ) → plan_of result «data» bytes ≡ spec.done s word (writes_of change «data» bytes)) × (result.change ≡ change) }
 {
@@ -81,6 +83,7 @@ fn done(s: Standing, word: usize, change: Change) -> Decision
 }
 
 // Returns the decision of a command that ends well, with the n bytes of the file memory from a place on.
+#[tactic(auto, unfolding(crate::specs::Promised::plan_of, crate::specs::Promised::writes_of, crate::specs::Ends::handed))]
 fn handed(s: Standing, word: usize, place: usize, n: usize) -> Decision
     ensures { ((«data» bytes : List ℕ) → plan_of result «data» bytes ≡ spec.handed s word place n) × (result.change ≡ Change.Nothing) }
 {
@@ -94,6 +97,7 @@ fn handed(s: Standing, word: usize, place: usize, n: usize) -> Decision
 }
 
 // Returns the decision of a command that ends well, with the first n waiting bytes, and leaves the session as it is.
+#[tactic(auto, unfolding(crate::specs::Promised::plan_of, crate::specs::Promised::writes_of))]
 pub fn waited(s: Standing, word: usize, n: usize) -> Decision
     ensures { ((«data» bytes : List ℕ) → plan_of result «data» bytes ≡ spec.waited s word n) × (result.change ≡ Change.Nothing) }
 {
@@ -106,6 +110,7 @@ pub fn waited(s: Standing, word: usize, n: usize) -> Decision
 }
 
 // Returns the decision of a command that ends well, with n bytes that it made.
+#[tactic(auto, using(crate::proofs::Made::taken), unfolding(crate::specs::Promised::plan_of, crate::specs::Promised::writes_of, crate::specs::Ends::produced))]
 fn produced(format: Format, s: Standing, n: usize, word: usize, change: Change) -> Decision
     requires { (n ≤ most_waiting) × (word < 65536) }
     ensures { ((«data» bytes out rest : List ℕ) → bytes ≡ overwrite rest 0 out → n ≡ length out → plan_of result «data» bytes ≡ spec.produced format s word out (writes_of change «data» bytes)) × (result.change ≡ change) }

@@ -24,18 +24,20 @@ fn record_contains(files: &[u8], r: Row, number: usize, data: &[u8]) -> bool
 }
 
 // Notes a number at place n of `out` if it was found, and returns the place after the notes.
+#[tactic(auto, unfolding(crate::specs::Files::noted, octets::specs::Choice::pick, octets::specs::Bytes::overwrite))]
 fn note(out: &mut [u8], n: usize, number: usize, found: bool) -> usize
     requires { (n < length out.old) × (number < 256) }
     ensures { (out.new ≡ overwrite out.old n (spec.noted found number)) × (result ≡ n + length (spec.noted found number)) }
 {
     if found {
-        octets::fill(out, n, 1, number as u8);
+        out[n] = number as u8;
         return n + 1;
     }
     n
 }
 
 // Returns the number of the record that is searched next.
+#[tactic(auto, unfolding(crate::specs::Files::next_searched, octets::specs::Choice::pick))]
 fn next_searched(p2: usize, number: usize) -> usize
     requires { (1 ≤ number) × (number < 256) }
     ensures { result ≡ spec.next_searched p2 number }
@@ -47,6 +49,7 @@ fn next_searched(p2: usize, number: usize) -> usize
 }
 
 // Returns how many records are to be searched from a number on.
+#[tactic(auto, unfolding(crate::specs::Files::to_search, octets::specs::Choice::pick))]
 fn to_search(r: Row, p2: usize, number: usize) -> usize
     requires { ToSearchAsks r number }
     ensures { result ≡ spec.to_search r p2 number }
@@ -71,14 +74,13 @@ pub(crate) fn search(
     ensures { (out.new ≡ overwrite out.old 0 (spec.found_records r (part files.now r.start r.size) p2 «data».now from))
         × (result ≡ length (spec.found_records r (part files.now r.start r.size) p2 «data».now from)) }
 {
-    let mut left: usize = to_search(r, p2, from);
     let mut number: usize = from;
     let mut n: usize = 0;
-    while 0 < left {
+    let left = to_search(r, p2, from);
+    for _ in 0..left {
         let found = record_contains(files, r, number, data);
         n = note(out, n, number, found);
         number = next_searched(p2, number);
-        left -= 1;
     }
     n
 }

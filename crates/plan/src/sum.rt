@@ -4,6 +4,7 @@ ghost use Rattle.octets.specs.Bytes.{value, bytes_of, overwrite};
 ghost use Rattle.plan.specs.Sums.{from_right};
 
 // Returns a number's byte at place i, counted from its right end, and 0 in front of the number.
+#[tactic(auto, unfolding(crate::specs::Sums::from_right, octets::specs::Choice::pick))]
 fn from_right(number: &[u8], i: usize) -> usize
     ensures { (result ≡ from_right number.now i) × (result < 256) }
 {
@@ -23,13 +24,11 @@ pub fn add(first: &[u8], added: &[u8], out: &mut [u8]) -> usize
 {
     let n = first.len();
     let mut carry: usize = 0;
-    let mut i: usize = 0;
-    while i < n {
+    for i in 0..n {
         let at = n - 1 - i;
         let digits = from_right(first, i) + from_right(added, i) + carry;
         out[at] = (digits % 256) as u8;
         carry = digits / 256;
-        i += 1;
     }
     carry
 }

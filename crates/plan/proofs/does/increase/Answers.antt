@@ -7,49 +7,24 @@ use mathlib.Core.Path.{◌≡◌, ap, ◌∙◌}
 use mathlib.Core.List.{◌++◌}
 use native.Mathlib.Omega.{arith}
 use lib.ListN.{length}
-use Rattle.octets.specs.Bytes.{part, bytes_of}
+use Rattle.octets.specs.Bytes.{bytes_of}
 use Rattle.session.specs.Session.{at_record}
 use Rattle.command.specs.Outcomes.{normal}
 use Rattle.plan.specs.Ends.{produced}
-use Rattle.plan.specs.Files.{File, sum}
+use Rattle.plan.specs.Files.{sum}
 use Rattle.plan.specs.Plans as plans
 use Rattle.plan.specs.declared.Change.TheVariants.{SumRecord}
 use Rattle.plan.specs.Promised.{writes_of, Fits, newest_of}
 use Rattle.plan.proofs.Inside.{none-fits, newest-fits}
-use Rattle.plan.proofs.Sums.{Raised, sum-fails, sum_done, new-bytes, new-size, new-writes}
+use Rattle.plan.proofs.Sums.{raised, sum-fails, sum_done, new-bytes, new-size, new-writes}
 use Rattle.plan.proofs.does.increase.Goals as goal
-use Rattle.plan.proofs.does.increase.Lts as lts
-use Rattle.plan.proofs.does.increase.Reads as reads
-use Rattle.plan.proofs.does.increase.Tie as tie
-
-abbrev After-record_offset : Type 0
-After-record_offset = lts.After-record_offset tie.the-claims reads.Pre reads.Post
-
-abbrev Start : Type 0
-Start = lts.Start tie.the-claims reads.Pre reads.Post
-
--- the file, in the terms of the code
-module _ (c : After-record_offset) where
-  abbrev start : Start
-  start = c.before.before.before.before
-
-  raised : (f : File) → f.row ≡ start.args.r → f.entry ≡ start.args.s.file → f.content ≡ part start.args.files.now start.args.r.start start.args.r.size → Raised start.args.files.now start.args.s start.args.r c.record_offset.result f
-  raised f row entry content =
-      record {
-        at = c.record_offset.ensures.0;
-        inside = c.record_offset.ensures.1;
-        lies = start.requires.file.inside;
-        row = row;
-        entry = entry;
-        content = content;
-      }
 
 pub returns-then-carry-ne0 : goal.returns-then-carry-ne0
 returns-then-carry-ne0 c =
-    let a = (start c.before.before.before.before.before.before.before.before.before).args in (
+    let a = c.args in (
       λ f row entry content.
           c.failed.ensures.0 a.«data».now _
-          ∙ sum-fails (raised c.before.before.before.before.before.before.before.before.before f row entry content) a.«data».now c.add-carry.ensures.0 c.if-carry-ne0.true (plans.increase a.format a.«data».now a.s f),
+          ∙ sum-fails (raised {s = a.s} c.record_offset.ensures c.requires.file.inside row entry content) a.«data».now c.add-carry.ensures.0 c.if-carry-ne0.true (plans.increase a.format a.«data».now a.s f),
       λ t h. none-fits _ _ _ c.failed.ensures.1,
     )
 
@@ -60,12 +35,12 @@ produced-requires c =
 pub returns : goal.returns
 unfolding plans.increase Fits newest_of
 returns c =
-    let a = (start c.before.before.before.before.before.before.before.before.before.before.before.before.before.before.before.before).args in
-    let p = (start c.before.before.before.before.before.before.before.before.before.before.before.before.before.before.before.before).requires in
+    let a = c.args in
+    let p = c.requires in
     let record-made : c.new_record.result ≡ newest_of a.s.file a.r = c.new_record.ensures ∙ ap (λ e. newest_of e a.r) c.target.ensures in
     let sum-made = c.add-carry.ensures in (
       λ f row entry content.
-          let h = raised c.before.before.before.before.before.before.before.before.before.before.before.before.before.before.before.before f row entry content in
+          let h = raised {s = a.s} c.record_offset.ensures p.file.inside row entry content in
           let out = bytes_of f.row.record_length (sum f.row f.content a.«data».now) ++ a.«data».now in
           let e = new-bytes h a.«data».now a.made.now p.made (omega (arith, p.short, p.fits)) sum-made.1 c.copy.ensures in
           sum_done h a.«data».now sum-made.0 c.if-carry-ne0.false

@@ -9,65 +9,54 @@ use Prim.Native.Nat.{ℕ, ◌≤◌}
 use native.Mathlib.Omega.{arith}
 use lib.ListN.{length}
 use Rattle.octets.specs.Bytes.{byte, part}
-use Rattle.plan.specs.Files.{File, found_records}
+use Rattle.card.specs.declared.Row.{Row}
+use Rattle.session.specs.declared.Standing.{Standing}
+use Rattle.command.specs.declared.Command.{Command}
+use Rattle.command.specs.declared.Format.{Format}
 use Rattle.command.specs.Outcomes.{normal}
 use Rattle.plan.specs.Ends.{produced}
-use Rattle.plan.specs.Plans.{named_by, searched}
-use Rattle.plan.specs.Plans as plans
+use Rattle.plan.specs.Files.{File, found_records}
+use Rattle.plan.specs.Plans.{named_by, searched, search}
 use Rattle.plan.specs.Promised.{writes_of}
 use Rattle.plan.proofs.Made.{write-short, searched-none, searched-some}
 use Rattle.plan.proofs.does.search_records.Goals as goal
-use Rattle.plan.proofs.does.search_records.Lts as lts
-use Rattle.plan.proofs.does.search_records.Reads as reads
-use Rattle.plan.proofs.does.search_records.Tie as tie
 
-abbrev After-search : Type 0
-After-search = lts.After-search tie.the-claims reads.Pre reads.Post
+-- what is found, as the code names it
+abbrev found : List ℕ → Row → Command → List ℕ → ℕ → List ℕ
+found files r c «data» number = found_records r (part files r.start r.size) c.p2 «data» number
 
-abbrev Start : Type 0
-Start = lts.Start tie.the-claims reads.Pre reads.Post
-
--- what is found, as the code names it and as the definition does
-module _ (c : After-search) where
-  abbrev start : Start
-  start = let at-record-of = c.before.before.before in at-record-of.before.before.before.before
-
-  abbrev found : List ℕ
-  found =
-      let a = start.args in
-      found_records a.r (part a.files.now a.r.start a.r.size) a.c.p2 a.«data».now c.record_of-number.result
-
-  as_named : (f : File) → f.row ≡ start.args.r → f.content ≡ part start.args.files.now start.args.r.start start.args.r.size → searched start.args.format start.args.s found ≡ plans.search start.args.format start.args.c start.args.«data».now start.args.s f
-  unfolding plans.search
-  as_named f row content =
-      let a = start.args in
-      λ i. searched a.format a.s (found_records (sym row i) (sym content i) a.c.p2 a.«data».now ((c.record_of-number.ensures ∙ ap (named_by a.c a.s.record_number) (sym row)) i))
+as_named : (format : Format) (s : Standing) (files : List ℕ) (r : Row) (c : Command) («data» : List ℕ) {number : ℕ} (f : File) → number ≡ named_by c s.record_number r → f.row ≡ r → f.content ≡ part files r.start r.size → searched format s (found files r c «data» number) ≡ search format c «data» s f
+unfolding search
+as_named format s files r c «data» f named row content =
+    λ i. searched format s (found_records (sym row i) (sym content i) c.p2 «data» ((named ∙ ap (named_by c s.record_number) (sym row)) i))
 
 pub returns-then-n-eq0 : goal.returns-then-n-eq0
 unfolding writes_of
 returns-then-n-eq0 c =
-    let a = (start c.before.before.before.before.before).args in (
+    let a = c.args in (
       λ f row content.
           c.done.ensures.0 a.«data».now _
-          ∙ searched-none a.format a.s (found c.before.before.before.before.before) (sym c.search-n.ensures.1 ∙ c.if-n-eq0.true)
-          ∙ as_named c.before.before.before.before.before f row content,
+          ∙ searched-none a.format a.s (found a.files.now a.r a.c a.«data».now c.record_of-number.result) (sym c.search-n.ensures.1 ∙ c.if-n-eq0.true)
+          ∙ as_named a.format a.s a.files.now a.r a.c a.«data».now f c.record_of-number.ensures row content,
       c.done.ensures.1,
     )
 
 pub produced-requires : goal.produced-requires
 produced-requires c =
-    let l : length (found c.before.before.before.before.before.before.before) ≤ length (start c.before.before.before.before.before.before.before).args.made.now = write-short _ _ (sym (ap length c.search-n.ensures.0) ∙ c.search-n.auto.out) in
-    (omega (arith, c.search-n.ensures.1, (start c.before.before.before.before.before.before.before).requires.1.made), omega arith)
+    let a = c.args in
+    let l : length (found a.files.now a.r a.c a.«data».now c.record_of-number.result) ≤ length a.made.now = write-short _ _ (sym (ap length c.search-n.ensures.0) ∙ c.search-n.auto.out) in
+    (omega (arith, c.search-n.ensures.1, c.requires.1.made), omega arith)
 
 pub returns : goal.returns
 unfolding writes_of
 returns c =
-    let a = (start c.before.before.before.before.before.before.before.before).args in
-    let s = c.search-n.ensures in (
+    let a = c.args in
+    let s = c.search-n.ensures in
+    let all = found a.files.now a.r a.c a.«data».now c.record_of-number.result in (
       λ f row content.
-          c.produced.ensures.0 a.«data».now _ (found c.before.before.before.before.before.before.before.before) a.made.now s.0 s.1
-          ∙ (λ i. produced a.format (c.at_record-next.ensures i) normal (found c.before.before.before.before.before.before.before.before) [])
-          ∙ searched-some a.format a.s a.made.now (found c.before.before.before.before.before.before.before.before) _ (λ z. c.if-n-eq0.false (s.1 ∙ z)) (c.wide.ensures.0 ∙ ap (λ (l : List ℕ). byte l 0) s.0)
-          ∙ as_named c.before.before.before.before.before.before.before.before f row content,
+          c.produced.ensures.0 a.«data».now _ all a.made.now s.0 s.1
+          ∙ (λ i. produced a.format (c.at_record-next.ensures i) normal all [])
+          ∙ searched-some a.format a.s a.made.now all _ (λ z. c.if-n-eq0.false (s.1 ∙ z)) (c.wide.ensures.0 ∙ ap (λ (l : List ℕ). byte l 0) s.0)
+          ∙ as_named a.format a.s a.files.now a.r a.c a.«data».now f c.record_of-number.ensures row content,
       c.produced.ensures.1,
     )

@@ -1,8 +1,0 @@
--- `plan::waited` meets its contract. Assumes nothing.
-use mathlib.Core.Path.{refl}
-use Rattle.plan.specs.Promised.{plan_of, writes_of}
-use Rattle.plan.proofs.waited.Goals as goal
-
-pub returns : goal.returns
-unfolding plan_of writes_of
-returns c = (λ «data» bytes. refl, refl)
