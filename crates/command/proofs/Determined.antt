@@ -24,8 +24,8 @@ use Rattle.command.proofs.instruction.is_record.Reads as is-record
 use Rattle.command.proofs.instruction.class_of.Reads as class_of
 use Rattle.command.proofs.instruction.case_of.Reads as case-of
 use Rattle.command.proofs.instruction.never_bit.Reads as never-bit
-use Rattle.command.specs.contracts.reader.at_front as at_front
-use Rattle.command.specs.contracts.reader.moved_on as moved_on
+use Rattle.command.specs.contracts.reader.Reader.at_front as at_front
+use Rattle.command.specs.contracts.reader.Reader.moved_on as moved_on
 
 module _ (κs : Lfts 0) where
   pub word_of_determined : Determined (word_of.Learnt κs) (λ args a e. a)

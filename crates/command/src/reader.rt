@@ -8,19 +8,21 @@ pub struct Reader<'a> {
     pub at: usize,
 }
 
-// Returns a reader at the front of a script.
-pub fn at_front<'a>(script: &'a [u8]) -> Reader<'a>
-    ensures { (result.script ≡ script.entry) × (result.at ≡ 0) }
-{
-    Reader { script, at: 0 }
-}
+impl<'a> Reader<'a> {
+    // Returns a reader at the front of a script.
+    pub fn at_front(script: &'a [u8]) -> Reader<'a>
+        ensures { (result.script ≡ script.entry) × (result.at ≡ 0) }
+    {
+        Reader { script, at: 0 }
+    }
 
-// Returns the reader, moved on to the place `at`.
-pub fn moved_on<'a>(r: Reader<'a>, at: usize) -> Reader<'a>
-    ensures { (result.script ≡ r.entry.script) × (result.at ≡ at) }
-{
-    Reader {
-        script: r.script,
-        at,
+    // Returns the reader, moved on to the place `at`.
+    pub fn moved_on(self, at: usize) -> Reader<'a>
+        ensures { (result.script ≡ self.entry.script) × (result.at ≡ at) }
+    {
+        Reader {
+            script: self.script,
+            at,
+        }
     }
 }

@@ -5,7 +5,7 @@ ghost use Rattle.compact.specs.Promised.{ReadingFits};
 
 use crate::read::read_at;
 use command::Reading;
-use command::reader::{Reader, at_front, moved_on};
+use command::reader::Reader;
 
 // Returns the command that stands at a reader's place.
 fn reading_of<'a>(r: Reader<'a>) -> Reading
@@ -20,5 +20,5 @@ pub fn next_reading(script: &[u8], at: usize) -> Reading
     requires { at < length script.now }
     ensures { (result ≡ spec.read_at script.now at) × ReadingFits script.now at result }
 {
-    reading_of(moved_on(at_front(script), at))
+    reading_of(Reader::at_front(script).moved_on(at))
 }

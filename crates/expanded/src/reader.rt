@@ -3,7 +3,7 @@ ghost use Rattle.std.specs.Prelude.{◌≡◌, ◌≤◌, length};
 ghost use Rattle.tlv.specs.Templates as spec;
 ghost use Rattle.tlv.specs.Promised.{ItemFits};
 
-use command::reader::{Reader, at_front, moved_on};
+use command::reader::Reader;
 use tlv::template::{Item, item_at};
 
 // Returns the item that stands at a reader's place, in a value that ends at `end`.
@@ -19,5 +19,5 @@ pub fn next_item(script: &[u8], at: usize, end: usize) -> Item
     requires { (at ≤ end) × (end ≤ length script.now) }
     ensures { (result ≡ spec.item_at script.now at end) × ItemFits at end result }
 {
-    item_of(moved_on(at_front(script), at), end)
+    item_of(Reader::at_front(script).moved_on(at), end)
 }
