@@ -5,6 +5,7 @@ use mathlib.Core.Path.{◌≡◌, sym, ◌∙◌}
 use contract.Lifetimes.{Lfts}
 use Rattle.octets.proofs.wide.Reads as wide
 use Rattle.octets.proofs.num_at.Reads as num-at
+use Rattle.octets.proofs.bytes2.Reads as two
 use Rattle.octets.proofs.put_num.Reads as put-num
 use Rattle.octets.proofs.copy.Reads as copy
 use Rattle.octets.proofs.fill.Reads as fill
@@ -40,6 +41,9 @@ both e f = λ i. pair (e i) (f i)
 module _ (κs : Lfts 0) where
   pub wide_determined : Determined (wide.Learnt κs) (λ args a e. a)
   wide_determined = by_equation (λ args a e h. h.0)
+
+  pub bytes2_determined : Determined (two.Learnt κs) (λ args a e. a)
+  bytes2_determined = by_equation (λ args a e h. h)
 
 module _ (κs : Lfts 1) where
   pub num_at_determined : Determined (num-at.Learnt κs) (λ args a e. a)

@@ -2,8 +2,8 @@
 -- A write is three runs joined: the bytes in front of it, the new bytes, and those after them. So each fact is one about taking and
 -- dropping at a seam: what lies in front or after is as it was, and what lies at the place is the new run. From these come the laws
 -- of two writes: at one place the last counts, so old bytes can be given back (`undo`); two that follow each other are one
--- (`write_two`); and two that do not overlap can be swapped (`write_swap`). The last laws make a write out of single stored bytes,
--- one more at a time. Assumes nothing.
+-- (`write_two`); and two that do not overlap can be swapped (`write_swap`). A run that replaces a lent part is a write (`write_lent`).
+-- The last laws make a write out of single stored bytes, one more at a time. Assumes nothing.
 use mathlib.Core.Path.{◌≡◌, sym, ap, ◌∙◌}
 use mathlib.Core.List.{List, [], ◌∷◌, ◌++◌, append_assoc}
 use Prim.Native.Nat.{ℕ, zero, suc, ◌+◌, ◌-◌, ◌≤◌, ◌<◌}
@@ -11,14 +11,15 @@ use native.Mathlib.Nat.{add_assoc, add-zero, zero-add, suc-add, add-sub_of_le, a
 use native.Mathlib.Numerals.{add-one}
 use native.Mathlib.Omega.{arith}
 use lib.ListN.{length, set, take, drop, length-append, length-take, length-drop, take-append-drop, get_or-append}
-use lib.Seq.{length-take-le, take-append-le, take-append-add, take-append_seam, drop-append-le, drop-append-add, drop_at, drop-drop, take-take, take-nil, take-add, take-suc, set_split, sets, sets-eq, get_or-take, get_or-drop}
+use borrow.Rule.Slice.PartMut.{put_mid}
+use lib.Seq.{length-take-le, take-append-le, take-append-add, take-append_seam, drop-append-le, drop-append-add, drop_at, drop-drop, take-take, take-nil, take-add, take-suc, set_split, get_or-take, get_or-drop}
 use Rattle.octets.specs.Bytes.{byte, part, overwrite}
 
 -- parts of a memory: one that is lent by where it starts and where it ends
 pub part-lent : (m : List ℕ) (p n : ℕ) → part m p (p + n - p) ≡ part m p n
 part-lent m p n = ap (part m p) (add-sub_cancel_left p n)
 
-part_cut : (a n : ℕ) (m : List ℕ) → part m a n ≡ drop a (take (a + n) m)
+pub part_cut : (a n : ℕ) (m : List ℕ) → part m a n ≡ drop a (take (a + n) m)
 part_cut zero n m = rw zero-add
 part_cut (suc a) n [] = rw suc-add (take-nil n)
 part_cut (suc a) n (x ∷ m) = rw suc-add (part_cut a n m)
@@ -138,6 +139,11 @@ write_in-part m a k n d e h g =
     let f : n + length d ≤ length (part m a k) = rw (part_length m a k h) g in
     rw (e, ← write_front, take-append-drop k (drop a m)) (write_in-rest m a n d (omega arith))
 
+-- a run put in the place of a part that was lent, as long as the run
+pub write_lent : (m : List ℕ) (p n : ℕ) {ys d : List ℕ} → ys ≡ d → length d ≡ n → put_mid p (p + n - p) m ys ≡ overwrite m p d
+unfolding overwrite
+write_lent m p n e l = rw (add-sub_cancel_left p n, e, drop-drop, l)
+
 -- one stored byte, and one more at the end of a write
 pub set-write : (m : List ℕ) (i b : ℕ) → i < length m → set m i b ≡ overwrite m i (b ∷ [])
 unfolding overwrite
@@ -153,8 +159,3 @@ write_more m p a n b l h =
 pub write-next : (m m₀ d : List ℕ) (at i : ℕ) → at + length d ≤ length m₀ → i < length d → m ≡ overwrite m₀ at (take i d) → set m (at + i) (byte d i) ≡ overwrite m₀ at (take (i + 1) d)
 write-next m m₀ d at i fits h e =
     rw (e, add-one, take-suc d i 0) (write_more m₀ at (take i d) i (byte d i) (length-take-le i d (omega arith)) (omega arith))
-
--- a run of stores, one byte after the other
-pub sets-write : (m : List ℕ) (p : ℕ) (d : List ℕ) → p + length d ≤ length m → sets m p d ≡ overwrite m p d
-unfolding overwrite
-sets-write m p d fits = sets-eq d m p fits ∙ append_assoc (take p m) d (drop (p + length d) m)

@@ -2,23 +2,30 @@
 #![tactic(auto)]
 
 ghost use Rattle.std.specs.Prelude.{◌≡◌, [], ◌∷◌, ◌++◌, ◌+◌, ◌≤◌, ◌<◌, length, drop, replicate};
-ghost use Rattle.octets.specs.Bytes.{part, num_at, bytes2, overwrite, all_zero, starts_with, contains};
+ghost use Rattle.octets.specs.Bytes.{part, num_at, bytes2, overwrite, all_zero, same, starts_with, contains};
 
 // Returns a byte as a number.
 pub fn wide(b: u8) -> usize
     ensures { (result ≡ b) × (result < 256) }
 {
-    b as usize
+    usize::from(b)
 }
 
 // Returns the 16-bit number that stands at the place `at`.
+#[tactic(auto, unfolding(crate::specs::Bytes::num_at))]
 pub fn num_at(m: &[u8], at: usize) -> usize
     requires { at + 2 ≤ length m.now }
     ensures { (result ≡ num_at m.now at) × (result < 65536) }
 {
-    let high = wide(m[at]);
-    let low = wide(m[at + 1]);
-    high * 256 + low
+    usize::from(u16::from_be_bytes([m[at], m[at + 1]]))
+}
+
+// Returns the lowest 16 bits of n as two bytes.
+#[tactic(auto, unfolding(crate::specs::Bytes::bytes2))]
+pub fn bytes2(n: usize) -> [u8; 2]
+    ensures { result ≡ bytes2 n }
+{
+    ((n % 65536) as u16).to_be_bytes()
 }
 
 // Writes the lowest 16 bits of n, as two bytes, at the place `at`.
@@ -26,8 +33,7 @@ pub fn put_num(m: &mut [u8], at: usize, n: usize)
     requires { at + 2 ≤ length m.old }
     ensures { m.new ≡ overwrite m.old at (bytes2 n) }
 {
-    m[at] = (n / 256 % 256) as u8;
-    m[at + 1] = (n % 256) as u8;
+    copy(m, at, &bytes2(n));
 }
 
 // Copies the bytes of `d` into `m`, from the place `at` on.
@@ -35,11 +41,7 @@ pub fn copy(m: &mut [u8], at: usize, d: &[u8])
     requires { at + length d.now ≤ length m.old }
     ensures { m.new ≡ overwrite m.old at d.now }
 {
-    let mut i: usize = 0;
-    while i < d.len() {
-        m[at + i] = d[i];
-        i += 1;
-    }
+    m[at..at + d.len()].copy_from_slice(d);
 }
 
 // Fills the n bytes from the place `at` on with the byte b.
@@ -47,11 +49,7 @@ pub fn fill(m: &mut [u8], at: usize, n: usize, b: u8)
     requires { at + n ≤ length m.old }
     ensures { m.new ≡ overwrite m.old at (replicate n b) }
 {
-    let mut i: usize = 0;
-    while i < n {
-        m[at + i] = b;
-        i += 1;
-    }
+    m[at..at + n].fill(b);
 }
 
 // Writes the four bytes of a journal's head: used bytes, scripts on trial, flag.
@@ -59,93 +57,80 @@ pub fn put_head(m: &mut [u8], used: usize, scripts: u8, flag: u8)
     requires { 4 ≤ length m.old }
     ensures { m.new ≡ overwrite m.old 0 (bytes2 used ++ (scripts ∷ flag ∷ [])) }
 {
-    m[0] = (used / 256 % 256) as u8;
-    m[1] = (used % 256) as u8;
-    m[2] = scripts;
-    m[3] = flag;
+    let [high, low] = bytes2(used);
+    copy(m, 0, &[high, low, scripts, flag]);
 }
 
-// Returns whether every byte is zero.
+// Returns whether every byte is zero. Each is looked at, so that many are compared at once: to stop at the first that is not, by
+// `all`, takes 11,500 instructions more for a journal of 2,048 bytes.
 pub fn all_zero(m: &[u8]) -> bool
     ensures { result ≡ all_zero m.now }
 {
     let mut zero = true;
-    let mut i: usize = 0;
-    while i < m.len() {
-        zero = zero & (m[i] == 0);
-        i += 1;
+    for b in m {
+        zero &= *b == 0;
     }
     zero
 }
 
-// Returns whether the n bytes of `d` from the place `from` on stand in `m` at the place `at`; all of them are compared.
-fn same_part(m: &[u8], at: usize, d: &[u8], from: usize, n: usize) -> bool
-    requires { (at + n ≤ length m.now) × (from + n ≤ length d.now) }
-    ensures { result ≡ starts_with (drop at m.now) (part d.now from n) }
+// Returns whether two runs of one length are the same; all their bytes are compared, many at once.
+fn pairs_same(a: &[u8], b: &[u8]) -> bool
+    requires { length a.now ≡ length b.now }
+    ensures { result ≡ same a.now b.now }
 {
     let mut same = true;
-    let mut i: usize = 0;
-    while i < n {
-        same = same & (m[at + i] == d[from + i]);
-        i += 1;
+    for (x, y) in a.iter().zip(b) {
+        same &= *x == *y;
     }
     same
 }
 
-// Returns whether the bytes of `m` from the place `at` on begin with `d`, compared `width` bytes at a time; at last come the final
-// `width` bytes of `d`.
-fn starts_by(m: &[u8], at: usize, d: &[u8], width: usize) -> bool
-    requires { (at + length d.now ≤ length m.now) × ((0 < width) × (width ≤ length d.now)) }
-    ensures { result ≡ starts_with (drop at m.now) d.now }
+// Returns whether two runs of one length are the same, compared `width` bytes at a time; at last come the final `width`.
+fn pieces_same(a: &[u8], b: &[u8], width: usize) -> bool
+    requires { (length a.now ≡ length b.now) × (0 < width) × (width ≤ length b.now) }
+    ensures { result ≡ same a.now b.now }
 {
-    let last = d.len() - width;
-    let mut i: usize = 0;
-    while i < last {
-        if !same_part(m, at + i, d, i, width) {
-            return false;
-        }
-        i += width;
+    let (one, more) = a.split_at(width);
+    let (other, left) = b.split_at(width);
+    if !pairs_same(one, other) {
+        return false;
     }
-    same_part(m, at + last, d, last, width)
+    if left.len() > width {
+        return pieces_same(more, left, width);
+    }
+    let last = left.len();
+    pairs_same(&a[last..], &b[last..])
 }
 
-// Returns whether the bytes of `m` from the place `at` on begin with `d`: most often the first byte tells.
+// Returns whether two runs of one length are the same: most often the first byte tells. Long ones are compared in pieces, since with
+// `==` alone a search for 121 bytes takes up to twice the instructions that the second program takes, and 1.25 times is the limit.
+fn is_same(a: &[u8], b: &[u8]) -> bool
+    requires { length a.now ≡ length b.now }
+    ensures { result ≡ same a.now b.now }
+{
+    if b.is_empty() {
+        return true;
+    }
+    if a[0] != b[0] {
+        return false;
+    }
+    if b.len() >= 64 {
+        return pieces_same(a, b, 64);
+    }
+    a == b
+}
+
+// Returns whether the bytes of `m` from the place `at` on begin with `d`.
 pub fn starts_at(m: &[u8], at: usize, d: &[u8]) -> bool
     requires { at + length d.now ≤ length m.now }
     ensures { result ≡ starts_with (drop at m.now) d.now }
 {
-    if d.len() == 0 {
-        return true;
-    }
-    if m[at] != d[0] {
-        return false;
-    }
-    if d.len() >= 32 {
-        return starts_by(m, at, d, 32);
-    }
-    if d.len() >= 8 {
-        return starts_by(m, at, d, 8);
-    }
-    if d.len() >= 4 {
-        return starts_by(m, at, d, 4);
-    }
-    starts_by(m, at, d, 1)
+    is_same(&m[at..at + d.len()], d)
 }
 
 // Returns whether `d` stands somewhere in `m`, in one piece; it is compared where it lies.
 pub fn within(m: &[u8], d: &[u8]) -> bool
     ensures { result ≡ contains m.now d.now }
 {
-    if m.len() < d.len() {
-        return false;
-    }
-    let last = m.len() - d.len();
-    let mut i: usize = 0;
-    while i <= last {
-        if starts_at(m, i, d) {
-            return true;
-        }
-        i += 1;
-    }
-    false
+    d.is_empty() || m.windows(d.len()).any(|part| is_same(part, d))
 }

@@ -1,12 +1,11 @@
--- `octets::starts_at` meets its contract: another first byte tells, and else all are compared. Assumes nothing.
-use native.Mathlib.Omega.{arith}
-use Rattle.octets.proofs.Same.{starts_empty, starts_differs}
+-- `octets::starts_at` meets its contract: the bytes that are compared are those that the run may begin. Assumes nothing.
+use mathlib.Core.Path.{ap, ◌∙◌}
+use Rattle.octets.specs.Bytes.{same}
+use Rattle.octets.proofs.Writes.{part-lent}
+use Rattle.octets.proofs.Same.{starts_same}
 use Rattle.octets.proofs.starts_at.Goals as goal
 
-pub returns-then-d-eq0 : goal.returns-then-d-eq0
-returns-then-d-eq0 c = starts_empty _ _ c.if-d-eq0.true
-
-pub returns-then-m-at : goal.returns-then-m-at
-returns-then-m-at c =
+pub returns : goal.returns
+returns c =
     let a = c.args in
-    starts_differs a.m.now a.d.now a.at (omega arith) c.if-m-at.true
+    c.is_same.ensures ∙ ap (λ m. same m a.d.now) (part-lent a.m.now a.at _) ∙ starts_same _ a.d.now
