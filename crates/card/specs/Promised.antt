@@ -1,8 +1,9 @@
 -- What promises speak of besides the rules: the bounds of a row, where parents stand, and what a record's offset asks.
-use Rattle.std.specs.Prelude.{ℕ, ◌≤◌, ◌<◌, ◌≡◌, false, List}
+use Rattle.std.specs.Prelude.{ℕ, ◌≤◌, ◌<◌, ◌≡◌, Bool, false, List}
+use Rattle.octets.specs.Choice.{all_below}
 use Rattle.card.specs.declared.Row.{Row}
 use Rattle.card.specs.Row.{entries, row_of}
-use Rattle.card.specs.Sound.{record_count}
+use Rattle.card.specs.Sound.{record_count, pair_sound}
 use Rattle.card.specs.Tree.{is_root}
 
 -- the fields are bytes and 16-bit numbers
@@ -27,6 +28,10 @@ ParentsSmaller t = (e : ℕ) → e < entries t → is_root (row_of t e) ≡ fals
 -- every parent is an entry of the table
 abbrev pub ParentsInside : List ℕ → Type 0
 ParentsInside t = (e : ℕ) → e < entries t → (row_of t e).parent < entries t
+
+-- entry e of a table is sound beside each before it
+unfoldable pub earlier_sound : List ℕ → ℕ → Bool
+earlier_sound t e = all_below e (λ d. pair_sound (row_of t d) (row_of t e))
 
 -- the offset of record r asks that the row's fields are bytes and 16-bit numbers, that its records are not empty, and that it has a
 -- record r

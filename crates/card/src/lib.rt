@@ -107,7 +107,8 @@ pub fn place_of_newest(e: usize) -> usize
     ENTRY_SIZE * e + NEWEST_BYTE
 }
 
-// Returns the place in the table of the byte of entry e that holds the state.
+// Returns the place in the table of the byte of entry e that holds the state. Beside the function above it is no plainer as one that
+// takes the byte: each is one sum, and is asked for by its name once.
 pub fn place_of_state(e: usize) -> usize
     requires { InWord (place_of_state e) }
     ensures { result ≡ place_of_state e }

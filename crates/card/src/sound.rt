@@ -1,12 +1,11 @@
 // The soundness of table and file memory, for slices of any length and content.
-ghost use Rattle.std.specs.Prelude.{◌≡◌, ◌≤◌, ◌<◌};
-ghost use Rattle.octets.specs.Choice.{all_below};
+ghost use Rattle.std.specs.Prelude.{◌≡◌, ◌<◌};
 ghost use Rattle.card.specs.Row.{entries, row_of};
-ghost use Rattle.card.specs.Promised.{RowFits};
-ghost use Rattle.card.specs.Sound.{entry_sound, pair_sound, entries_sound, pairs_sound, sound_table};
+ghost use Rattle.card.specs.Promised.{earlier_sound};
+ghost use Rattle.card.specs.Sound.{entry_sound, entries_sound, pairs_sound, sound_table};
 
 use crate::rules::{name_sound, own_sound, pair_sound, place_sound, root_sound};
-use crate::{ENTRY_SIZE, Row, entries, row_at};
+use crate::{ENTRY_SIZE, entries, row_at};
 
 // "The table has 1 to 64 entries"; "File memory has 1 to 32,768 bytes."
 const MOST_ENTRIES: usize = 64;
@@ -34,47 +33,23 @@ fn entry_sound(table: &[u8], files: usize, e: usize) -> bool
 fn entries_sound(table: &[u8], files: usize) -> bool
     ensures { result ≡ entries_sound (entries table.now) files (row_of table.now) }
 {
-    let n = entries(table);
-    let mut e: usize = 0;
-    while e < n {
-        if !entry_sound(table, files, e) {
-            return false;
-        }
-        e += 1;
-    }
-    true
+    (0..entries(table)).all(|e| entry_sound(table, files, e))
 }
 
-// Returns whether the row r of entry e is sound beside each entry before it.
-fn earlier_sound(table: &[u8], e: usize, r: Row) -> bool
-    requires { (e ≤ entries table.now) × RowFits r }
-    ensures { result ≡ all_below e (λ d. pair_sound (row_of table.now d) r) }
+// Returns whether entry e is sound beside each entry before it.
+fn earlier_sound(table: &[u8], e: usize) -> bool
+    requires { e < entries table.now }
+    ensures { result ≡ earlier_sound table.now e }
 {
-    let mut d: usize = 0;
-    while d < e {
-        let before = row_at(table, d);
-        if !pair_sound(before, r) {
-            return false;
-        }
-        d += 1;
-    }
-    true
+    let r = row_at(table, e);
+    (0..e).all(|d| pair_sound(row_at(table, d), r))
 }
 
 // Returns whether every two entries of a table are sound beside each other.
 fn pairs_sound(table: &[u8]) -> bool
     ensures { result ≡ pairs_sound (entries table.now) (row_of table.now) }
 {
-    let n = entries(table);
-    let mut e: usize = 0;
-    while e < n {
-        let r = row_at(table, e);
-        if !earlier_sound(table, e, r) {
-            return false;
-        }
-        e += 1;
-    }
-    true
+    (0..entries(table)).all(|e| earlier_sound(table, e))
 }
 
 // Returns whether a table is sound over a file memory.

@@ -1,14 +1,12 @@
 -- Choices by a test that is known, tests joined by and and or, and a test of every number below a bound.
 -- Each law splits on the value of a test. Those of choices are stated from the choice that is wanted back to the test that decides
--- it, so that the proof search can use them (`picks`, `choices`). The test of every number below n is made up number by number: a
--- loop that asks for one number after the other keeps it for the numbers below k; one that fails decides (`all-fails`), one that
--- holds makes it one longer (`all_more`), and where k is n it is the whole test (`all_ends`). Assumes nothing.
+-- it, so that the proof search can use them (`picks`, `choices`). A search through all numbers below n tells the test of all of them
+-- (`all_told`). Assumes nothing.
 use mathlib.Core.Path.{◌≡◌, refl, sym, ap, ◌∙◌}
 use mathlib.Core.Bool.{Bool, true, false, not, ◌&&◌, ◌||◌, false≢true}
 use mathlib.Core.Logic.{◌⊎◌, inl, inr, ⊎_elim}
-use Prim.Native.Nat.{ℕ, zero, suc, ◌+◌, ◌≤◌, ◌<◌}
+use Prim.Native.Nat.{ℕ, zero, suc, ◌≤◌, ◌<◌}
 use native.Mathlib.Nat.{eq-or-lt_of_le, le_of_suc-le-suc, not-suc-le-zero}
-use native.Mathlib.Numerals.{add-one}
 use native.Mathlib.Omega.{arith}
 use lib.Dec.{ltb, leb, eqb}
 use borrow.Author.Tests.{lt-ltb, le-ltb, le-leb, lt-leb, eq-eqb, ne_eqb, not-true, not-false}
@@ -121,18 +119,7 @@ unfolding all_below
 all_intro zero t h = refl
 all_intro (suc n) t h = and_both (all_below n t) (t n) (all_intro n t (λ k l. h k (omega arith))) (h n (omega arith))
 
--- a loop that asks for one number after the other: it starts, fails, goes on, and ends
-pub all_none : (t : ℕ → Bool) → all_below 0 t ≡ true
-unfolding all_below
-all_none t = refl
-
-module _ (k : ℕ) (t : ℕ → Bool) {b : Bool} (is : b ≡ t k) where
-  pub all-fails : (n : ℕ) → k < n → not b ≡ true → false ≡ all_below n t
-  all-fails n l h = sym (refuted (all_below n t) (λ e. false≢true (sym (told-false is h) ∙ all_at n k t e l)))
-
-  pub all_more : all_below k t ≡ true → not b ≡ false → all_below (k + 1) t ≡ true
-  unfolding all_below
-  all_more e h = rw add-one (and_both (all_below k t) (t k) e (told-true is h))
-
-pub all_ends : (n k : ℕ) (t : ℕ → Bool) → k ≡ n → all_below k t ≡ true → true ≡ all_below n t
-all_ends n k t e h = sym (rw e at h)
+-- the answer of a search through all numbers below the bound: that it holds says it of each, that it does not says that one fails
+pub all_told : (n : ℕ) (t : ℕ → Bool) (each : Bool) → (each ≡ true → (k : ℕ) → k < n → t k ≡ true) → (each ≡ false → ((k : ℕ) → k < n → t k ≡ true) → ⊥) → each ≡ all_below n t
+all_told n t true holds fails = sym (all_intro n t (holds refl))
+all_told n t false holds fails = sym (refuted (all_below n t) (λ e. fails refl (λ k l. all_at n k t e l)))

@@ -1,17 +1,23 @@
--- `card::sound::earlier_sound` meets its contract. The loop's invariant: the row and each entry before d are sound as a pair. Assumes nothing.
+-- `card::sound::earlier_sound` meets its contract: the entry is sound beside each entry before it, or beside one it is not. Assumes nothing.
+use mathlib.Core.Path.{◌≡◌, refl}
+use mathlib.Core.Bool.{Bool, true, false}
+use Prim.Native.Nat.{ℕ, ◌<◌}
 use native.Mathlib.Omega.{arith}
-use Rattle.octets.proofs.Picks.{all_none, all-fails, all_more, all_ends}
-use Rattle.std.proofs.lemmas.Bool.{not_from_true, not_from_false}
+use Rattle.std.proofs.iter.runs.Sources.{ranges}
+use Rattle.std.proofs.lemmas.Grind.{common_steps}
+use Rattle.octets.proofs.Picks.{all_told}
+use Rattle.octets.specs.Bytes.{byte}
+use Rattle.card.specs.Row.{row_of}
+use Rattle.card.specs.Promised.{earlier_sound}
+use Rattle.card.specs.Sound.{pair_sound}
 use Rattle.card.proofs.sound.earlier_sound.Goals as goal
 
-pub loop-d-init : goal.loop-d-init
-loop-d-init c = (omega arith, all_none _)
-
-pub returns-then-not-pair_sound : goal.returns-then-not-pair_sound
-returns-then-not-pair_sound c = all-fails c.loop-d.d _ (rw c.row_at-before.ensures.0 at c.pair_sound.ensures) _ (omega arith) (not_from_false _ c.if-not-pair_sound.true)
-
-pub loop-d-preserved : goal.loop-d-preserved
-loop-d-preserved c = (omega arith, all_more _ _ (rw c.row_at-before.ensures.0 at c.pair_sound.ensures) c.loop-d.invariant.1 (not_from_true _ c.if-not-pair_sound.false))
-
 pub returns : goal.returns
-returns c = all_ends _ c.loop-d.d _ (omega arith) c.loop-d.invariant.1
+unfolding earlier_sound
+returns c =
+    let a = c.args in
+    let t = a.table.now in
+    let test : ℕ → Bool = λ d. pair_sound (row_of t d) (row_of t a.e) in
+    let holds : c.all.result ≡ true → (k b : ℕ) → byte t k ≡ b → k < a.e → test k ≡ true = grind (arith, common_steps, ranges) in
+    let fails : c.all.result ≡ false → ((k : ℕ) → k < a.e → test k ≡ true) → ⊥ = grind (arith, common_steps, ranges) in
+    all_told a.e test c.all.result (λ e k. holds e k (byte t k) refl) fails

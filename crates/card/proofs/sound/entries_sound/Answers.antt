@@ -1,20 +1,21 @@
--- `card::sound::entries_sound` meets its contract. The loop's invariant: the entries before e are sound. Assumes nothing.
+-- `card::sound::entries_sound` meets its contract: each entry is sound, or one is not. Assumes nothing.
+use mathlib.Core.Path.{◌≡◌, refl}
+use mathlib.Core.Bool.{Bool, true, false}
+use Prim.Native.Nat.{ℕ, ◌<◌}
 use native.Mathlib.Omega.{arith}
-use Rattle.octets.proofs.Picks.{all_none, all-fails, all_more, all_ends}
-use Rattle.card.specs.Sound.{entries_sound}
-use Rattle.std.proofs.lemmas.Bool.{not_from_true, not_from_false}
+use Rattle.std.proofs.iter.runs.Sources.{ranges}
+use Rattle.std.proofs.lemmas.Grind.{common_steps}
+use Rattle.octets.proofs.Picks.{all_told}
+use Rattle.octets.specs.Bytes.{byte}
+use Rattle.card.specs.Row.{entries, row_of}
+use Rattle.card.specs.Sound.{entry_sound, entries_sound}
 use Rattle.card.proofs.sound.entries_sound.Goals as goal
-
-pub loop-e-init : goal.loop-e-init
-loop-e-init c = (omega arith, all_none _)
-
-pub returns-then-not-entry_sound : goal.returns-then-not-entry_sound
-unfolding entries_sound
-returns-then-not-entry_sound c = all-fails c.loop-e.e _ c.entry_sound.ensures _ (omega arith) (not_from_false _ c.if-not-entry_sound.true)
-
-pub loop-e-preserved : goal.loop-e-preserved
-loop-e-preserved c = (omega arith, all_more _ _ c.entry_sound.ensures c.loop-e.invariant.1 (not_from_true _ c.if-not-entry_sound.false))
 
 pub returns : goal.returns
 unfolding entries_sound
-returns c = all_ends _ c.loop-e.e _ (omega arith) c.loop-e.invariant.1
+returns c =
+    let t = c.args.table.now in
+    let test : ℕ → Bool = λ e. entry_sound c.args.files e (row_of t (row_of t e).parent) (row_of t e) in
+    let holds : c.all.result ≡ true → (k b : ℕ) → byte t k ≡ b → k < entries t → test k ≡ true = grind (arith, common_steps, ranges) in
+    let fails : c.all.result ≡ false → ((k : ℕ) → k < entries t → test k ≡ true) → ⊥ = grind (arith, common_steps, ranges) in
+    all_told (entries t) test c.all.result (λ e k. holds e k (byte t k) refl) fails

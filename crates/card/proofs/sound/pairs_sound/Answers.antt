@@ -1,20 +1,26 @@
--- `card::sound::pairs_sound` meets its contract. The loop's invariant: the entries before e are sound in pairs. Assumes nothing.
+-- `card::sound::pairs_sound` meets its contract: each entry is sound beside those before it, or one is not. Assumes nothing.
+use mathlib.Core.Path.{◌≡◌, refl}
+use mathlib.Core.Bool.{true, false}
+use Prim.Native.Nat.{ℕ, ◌<◌}
 use native.Mathlib.Omega.{arith}
-use Rattle.octets.proofs.Picks.{all_none, all-fails, all_more, all_ends}
+use Rattle.std.proofs.iter.runs.Sources.{ranges}
+use Rattle.std.proofs.lemmas.Grind.{common_steps}
+use Rattle.octets.proofs.Picks.{all_told}
+use Rattle.octets.specs.Bytes.{byte}
+use Rattle.card.specs.Row.{entries}
+use Rattle.card.specs.Promised.{earlier_sound}
 use Rattle.card.specs.Sound.{pairs_sound}
-use Rattle.std.proofs.lemmas.Bool.{not_from_true, not_from_false}
 use Rattle.card.proofs.sound.pairs_sound.Goals as goal
 
-pub loop-e-init : goal.loop-e-init
-loop-e-init c = (omega arith, all_none _)
+-- what the search says, of entries whose soundness beside others is not looked into
+holds : (c : goal.After-all) → c.all.result ≡ true → (k b : ℕ) → byte c.args.table.now k ≡ b → k < entries c.args.table.now → earlier_sound c.args.table.now k ≡ true
+holds c = grind (arith, common_steps, ranges)
 
-pub returns-then-not-earlier_sound : goal.returns-then-not-earlier_sound
-unfolding pairs_sound
-returns-then-not-earlier_sound c = all-fails c.loop-e.e _ (rw c.row_at-r.ensures.0 at c.earlier_sound.ensures) _ (omega arith) (not_from_false _ c.if-not-earlier_sound.true)
-
-pub loop-e-preserved : goal.loop-e-preserved
-loop-e-preserved c = (omega arith, all_more _ _ (rw c.row_at-r.ensures.0 at c.earlier_sound.ensures) c.loop-e.invariant.1 (not_from_true _ c.if-not-earlier_sound.false))
+fails : (c : goal.After-all) → c.all.result ≡ false → ((k : ℕ) → k < entries c.args.table.now → earlier_sound c.args.table.now k ≡ true) → ⊥
+fails c = grind (arith, common_steps, ranges)
 
 pub returns : goal.returns
-unfolding pairs_sound
-returns c = all_ends _ c.loop-e.e _ (omega arith) c.loop-e.invariant.1
+unfolding pairs_sound earlier_sound
+returns c =
+    let t = c.args.table.now in
+    all_told (entries t) (earlier_sound t) c.all.result (λ e k. holds c e k (byte t k) refl) (fails c)
