@@ -1,41 +1,44 @@
 -- A search for the first entry, entry by entry, and the way up to the root, step by step.
--- The loop of a search keeps that what is found from entry e on is what the whole search finds; a step looks at entry e, which is
--- found or passed over. The way up ends because a parent's number is smaller than its child's: from entry e it takes at most e
+-- A search stops at the first entry that passes its test (`first_told`). The way up ends because a parent's number is smaller than its child's: from entry e it takes at most e
 -- steps, so every bound that is large enough gives the same root (`same-root`), an entry has its parent's root (`root_of-parent`),
 -- and what is reached is a root (`root-facts`). Assumes nothing.
 use mathlib.Core.Path.{◌≡◌, refl, sym, ap, ◌∙◌}
 use mathlib.Core.Bool.{Bool, true, false, false≢true, ◌&&◌}
 use mathlib.Core.List.{List}
 use mathlib.Core.Logic.{⊎_elim}
-use Prim.Native.Nat.{ℕ, zero, suc, ◌+◌, ◌-◌, ◌≤◌, ◌<◌}
-use native.Mathlib.Nat.{le_refl}
+use Prim.Native.Nat.{ℕ, zero, suc, ◌+◌, ◌≤◌, ◌<◌}
+use native.Mathlib.Nat.{le_refl, eq-or-lt_of_le}
 use native.Mathlib.Omega.{arith}
 use lib.Dec.{eqb}
 use borrow.Author.Tests.{eq-eqb, ne_eqb}
 use Rattle.octets.proofs.Picks.{either, and_left, on_test}
 use Rattle.card.specs.declared.Row.{Row}
-use Rattle.card.specs.declared.tree.Found.{Found}
-use Rattle.card.specs.declared.tree.Found.TheVariants.{At, Nothing}
+use Rattle.std.specs.Prelude.{Option, Some, None}
 use Rattle.card.specs.Row.{entries, row_of}
 use Rattle.card.specs.Tree.{first_from, is_child_of, child_with, is_root, root_in, root_of}
 use Rattle.card.specs.Promised.{ParentsSmaller}
 
--- a search: what is left from e on is the whole of it
-module _ {f : Found} (n e : ℕ) (test : ℕ → Bool) (left : f ≡ first_from (n - e) e test) where
-  first_step : e < n → f ≡ first_from (suc (n - (e + 1))) e test
-  first_step h = let k : n - e ≡ suc (n - (e + 1)) = omega arith in rw k at left
+-- a search: the entry that it stops at passes the test, and no entry before it
+first_is : (n b e : ℕ) (test : ℕ → Bool) → b ≤ e → e < b + n → test e ≡ true → ((k : ℕ) → b ≤ k → k < e → test k ≡ false) → first_from n b test ≡ Some e
+unfolding first_from
+first_is zero b e test low high y before = absurd (omega arith)
+first_is (suc n) b e test low high y before =
+    ⊎_elim
+    (λ (same : b ≡ e). rw (first_from, ap test same ∙ y) (ap Some same))
+    (λ (less : b < e). rw (first_from, before b (le_refl b) less) (first_is n (b + 1) e test (omega arith) (omega arith) y (λ k l. before k (omega arith))))
+    (eq-or-lt_of_le low)
 
-  pub first_found : e < n → test e ≡ true → At e ≡ f
-  unfolding first_from
-  first_found h y = sym (rw (first_from, y) at (first_step h))
+first_none : (n b : ℕ) (test : ℕ → Bool) → ((k : ℕ) → b ≤ k → k < b + n → test k ≡ false) → first_from n b test ≡ None
+unfolding first_from
+first_none zero b test none = refl
+first_none (suc n) b test none = rw (first_from, none b (le_refl b) (omega arith)) (first_none n (b + 1) test (λ k l h. none k (omega arith) (omega arith)))
 
-  pub first-goes_on : e < n → test e ≡ false → f ≡ first_from (n - (e + 1)) (e + 1) test
-  unfolding first_from
-  first-goes_on h y = rw (first_from, y) at (first_step h)
-
-  pub first_ends : n ≤ e → Nothing ≡ f
-  unfolding first_from
-  first_ends h = let k : n - e ≡ 0 = omega arith in sym (rw k at left)
+pub first_told : (n : ℕ) (test : ℕ → Bool) (found : Option ℕ) → ((e : ℕ) → found ≡ Some e → (e < n) × (test e ≡ true))
+    → ((e : ℕ) → found ≡ Some e → (k : ℕ) → k < e → test k ≡ false) → (found ≡ None → (k : ℕ) → k < n → test k ≡ false) → found ≡ first_from n 0 test
+first_told n test (Some e) here before none =
+    let h = here e refl in
+    sym (first_is n 0 e test (omega arith) (omega (arith, h.0)) h.1 (λ k low less. before e refl k less))
+first_told n test None here before none = sym (first_none n 0 test (λ k low less. none refl k (omega (arith, less))))
 
 -- the way up: from a root, and from any other entry
 pub root-here : (n : ℕ) (t : List ℕ) (e : ℕ) → is_root (row_of t e) ≡ true → e ≡ root_in n t e
@@ -49,20 +52,20 @@ root-above zero t e r h less l up = absurd (omega arith)
 root-above (suc n) t e r h less l up = rw (root_in, h) (up n (omega arith))
 
 -- a search that finds an entry: it is one of those looked through, and passes the test
-pub first_tells : (n b : ℕ) (test : ℕ → Bool) (e : ℕ) → first_from n b test ≡ At e → (e < b + n) × (test e ≡ true)
+pub first_tells : (n b : ℕ) (test : ℕ → Bool) (e : ℕ) → first_from n b test ≡ Some e → (e < b + n) × (test e ≡ true)
 unfolding first_from
 first_tells zero b test e h = absurd (let z : ◌≡◌ {A = ℕ} 0 1 = cc in omega arith)
 first_tells (suc n) b test e h = go (first_tells n (b + 1) test e) (test b) refl
   where
-    go : (first_from n (b + 1) test ≡ At e → (e < b + 1 + n) × (test e ≡ true)) → (v : Bool) → test b ≡ v → (e < b + suc n) × (test e ≡ true)
+    go : (first_from n (b + 1) test ≡ Some e → (e < b + 1 + n) × (test e ≡ true)) → (v : Bool) → test b ≡ v → (e < b + suc n) × (test e ≡ true)
     go later true y =
-        let f : At b ≡ At e = rw (first_from, y) at h in
+        let f : Some b ≡ Some e = rw (first_from, y) at h in
         let q : b ≡ e = cc in
         (omega arith, rw q at y)
     go later false y = let l = later (rw (first_from, y) at h) in (omega arith, l.1)
 
 -- a child that is found: an entry of the table, and a child of the directory
-module _ (t : List ℕ) (directory : ℕ) (test : Row → Bool) (e : ℕ) (found : child_with t directory test ≡ At e) where
+module _ (t : List ℕ) (directory : ℕ) (test : Row → Bool) (e : ℕ) (found : child_with t directory test ≡ Some e) where
   tells : (e < entries t) × ((is_child_of directory (row_of t e) && test (row_of t e)) ≡ true)
   unfolding child_with
   tells = let f = first_tells (entries t) 0 _ e found in (omega arith, f.1)

@@ -7,29 +7,15 @@ ghost use Rattle.card.specs.Promised.{ParentsSmaller};
 use crate::rules::can_be_child;
 use crate::{ADF, DF, MF, entries, row_at};
 
-// What a search for an entry finds: its number, or nothing.
-#[derive(Clone, Copy)]
-pub enum Found {
-    At(usize),
-    Nothing,
-}
-
 // Returns the first child of a directory that has the identifier; the first such DF if `only_df`.
-pub fn child(table: &[u8], directory: usize, only_df: bool, identifier: usize) -> Found
+pub fn child(table: &[u8], directory: usize, only_df: bool, identifier: usize) -> Option<usize>
     ensures { result ≡ child_with table.now directory (λ r. (not only_df || is_df r) && eqb r.identifier identifier) }
 {
-    let n = entries(table);
-    let mut e: usize = 0;
-    while e < n {
-        let r = row_at(table, e);
-        if (can_be_child(r) & (r.parent == directory))
+    (0..entries(table)).find(|e| {
+        let r = row_at(table, *e);
+        (can_be_child(r) & (r.parent == directory))
             & ((!only_df | (r.kind == DF)) & (r.identifier == identifier))
-        {
-            return Found::At(e);
-        }
-        e += 1;
-    }
-    Found::Nothing
+    })
 }
 
 // Returns the MF or the ADF that entry e belongs to.

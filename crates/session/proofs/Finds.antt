@@ -1,52 +1,52 @@
--- What SELECT finds, step by step: the first of two findings, and a path, identifier by identifier. Assumes nothing.
-use mathlib.Core.Path.{◌≡◌}
-use mathlib.Core.List.{List, ◌∷◌}
-use Prim.Native.Nat.{ℕ, suc, ◌+◌, ◌≤◌, ◌<◌}
-use native.Mathlib.Numerals.{add-one}
+-- What a path finds, identifier by identifier. Assumes nothing.
+use mathlib.Core.Path.{◌≡◌, refl, sym, ap, ◌∙◌}
+use mathlib.Core.List.{List, [], ◌∷◌, ◌++◌}
+use Prim.Native.Nat.{ℕ, ◌+◌, ◌*◌, ◌%◌, ◌<◌}
 use native.Mathlib.Omega.{arith}
-use lib.ListN.{length, drop, drop_of_length-le}
-use lib.Seq.{drop-cons}
-use Rattle.octets.specs.Bytes.{byte, num_at}
-use Rattle.card.specs.declared.tree.Found.{Found}
-use Rattle.card.specs.declared.tree.Found.TheVariants.{At, Nothing}
-use Rattle.card.specs.Tree.{or_else, child}
+use lib.ListN.{length, length-append}
+use Rattle.std.specs.Prelude.{Option, Some, None}
+use Rattle.octets.specs.Bytes.{num_at}
+use Rattle.card.specs.Tree.{child}
 use Rattle.session.specs.Select.{by_path}
 
-pub or_first : {f : Found} (g : Found) (e : ℕ) → f ≡ At e → At e ≡ or_else f g
-unfolding or_else
-or_first g e h = rw h
-
-pub or_second : {f g r : Found} → f ≡ Nothing → r ≡ g → r ≡ or_else f g
-unfolding or_else
-or_second h e = rw h e
-
 -- the rest of a path, from the child that its next identifier finds
-abbrev pub onward : List ℕ → List ℕ → Found → Found
-onward t rest found = elim found [ At c ↦ by_path t c rest | Nothing ↦ Nothing ]
+abbrev pub onward : List ℕ → List ℕ → Option ℕ → Option ℕ
+onward t rest found = elim found [ Some c ↦ by_path t c rest | None ↦ None ]
 
--- a path: what is left from its byte i on finds what the whole does
-module _ (t : List ℕ) (e : ℕ) (path : List ℕ) (i : ℕ) {f : Found} (left : by_path t e (drop i path) ≡ f) where
-  two : i + 1 < length path → drop i path ≡ byte path i ∷ byte path (i + 1) ∷ drop (i + 2) path
-  two h =
-      let k : i + 2 ≡ suc (suc i) = omega arith in
-      rw (k, add-one i, drop-cons path i 0 (omega arith), drop-cons path (suc i) 0 (omega arith))
+onward_none : (t rest : List ℕ) (found : Option ℕ) → ((c : ℕ) → by_path t c rest ≡ None) → onward t rest found ≡ None
+onward_none t rest (Some c) h = h c
+onward_none t rest None h = refl
 
-  next : i + 1 < length path → onward t (drop (i + 2) path) (child t e (num_at path i)) ≡ f
-  unfolding by_path num_at
-  next h = rw (two h) at left
+-- a path of an odd number of bytes finds nothing
+pub path_odd : (t : List ℕ) (e : ℕ) (path : List ℕ) → (length path % 2 ≡ 0 → ⊥) → by_path t e path ≡ None
+unfolding by_path
+path_odd t e [] h = absurd (h refl)
+path_odd t e (a ∷ []) h = refl
+path_odd t e (a ∷ b ∷ path) h = onward_none t path (child t e (a * 256 + b)) (λ c. path_odd t c path (λ k. h (omega (arith, k))))
 
-  pub path_goes_on : i + 1 < length path → (c : ℕ) → child t e (num_at path i) ≡ At c → by_path t c (drop (i + 2) path) ≡ f
-  path_goes_on h c y = rw y at (next h)
+next : (t : List ℕ) (e : ℕ) (two left : List ℕ) → length two ≡ 2 → by_path t e (two ++ left) ≡ onward t left (child t e (num_at two 0))
+unfolding by_path num_at
+next t e [] left l = absurd (omega (arith, l))
+next t e (a ∷ []) left l = absurd (omega (arith, l))
+next t e (a ∷ b ∷ []) left l = refl
+next t e (a ∷ b ∷ c ∷ two) left l = absurd (omega (arith, l))
 
-  pub path_fails : i + 1 < length path → child t e (num_at path i) ≡ Nothing → Nothing ≡ f
-  path_fails h y = rw y at (next h)
+-- a path from an entry on, two bytes of it and what is left: the whole finds what the child with that identifier leads to
+module _ (t : List ℕ) (e : ℕ) (two left : List ℕ) {rest : List ℕ} {f : Option ℕ} (whole : by_path t e rest ≡ f) (cut : rest ≡ two ++ left) (size : length two ≡ 2) where
+  onto : onward t left (child t e (num_at two 0)) ≡ f
+  onto = sym (next t e two left size) ∙ ap (by_path t e) (sym cut) ∙ whole
 
-  pub path_odd : i < length path → length path ≤ i + 1 → Nothing ≡ f
-  unfolding by_path
-  path_odd h g =
-      let k : length path ≤ suc i = omega arith in
-      rw (drop-cons path i 0 h, drop_of_length-le path k) at left
+  pub path_fails : child t e (num_at two 0) ≡ None → None ≡ f
+  path_fails y = rw y at onto
 
-  pub path_ends : length path ≤ i → At e ≡ f
-  unfolding by_path
-  path_ends h = rw (drop_of_length-le path h) at left
+  pub path_goes_on : (c : ℕ) → child t e (num_at two 0) ≡ Some c → by_path t c left ≡ f
+  path_goes_on c y = rw y at onto
+
+pub path_even : (two left : List ℕ) {rest : List ℕ} → rest ≡ two ++ left → length two ≡ 2 → length rest % 2 ≡ 0 → length left % 2 ≡ 0
+path_even two left cut size h = omega (arith, simp length-append at (ap length cut))
+
+pub path_ends : (t : List ℕ) (e : ℕ) (rest : List ℕ) {f : Option ℕ} → length rest < 2 → length rest % 2 ≡ 0 → by_path t e rest ≡ f → Some e ≡ f
+unfolding by_path
+path_ends t e [] l h whole = whole
+path_ends t e (a ∷ []) l h whole = absurd (omega (arith, h))
+path_ends t e (a ∷ b ∷ rest) l h whole = absurd (omega (arith, l))

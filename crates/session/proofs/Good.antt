@@ -17,7 +17,7 @@ use borrow.Author.Tests.{eqb-true, ne_eqb}
 use Rattle.octets.proofs.Picks.{on_pick, or_either}
 use Rattle.octets.specs.Choice.{pick}
 use Rattle.card.specs.declared.Row.{Row}
-use Rattle.card.specs.declared.tree.Found.TheVariants.{At}
+use Rattle.std.specs.Prelude.{Some}
 use Rattle.card.specs.Row.{entries, row_of, is_cyclic, is_directory, is_file, has_records}
 use Rattle.card.specs.Sound.{record_count, sound_table}
 use Rattle.card.specs.Tree.{is_root, root_in, root_of}
@@ -159,5 +159,5 @@ module _ (t files : List ℕ) (sound : sound_table t files ≡ true) where
         (λ z. file-selected (no_directory-file t files sound e b.inside z))
 
   -- what it finds: never the other application's
-  pub find-belongs : (s : Standing) → Good t s → (p1 : ℕ) («data» : List ℕ) (e : ℕ) → find t s.root s.directory p1 «data» ≡ At e → Belongs t s.root e
+  pub find-belongs : (s : Standing) → Good t s → (p1 : ℕ) («data» : List ℕ) (e : ℕ) → find t s.root s.directory p1 «data» ≡ Some e → Belongs t s.root e
   find-belongs s g = find-owned t files sound s.root s.directory g.root_inside g.root g.directory

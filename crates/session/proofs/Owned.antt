@@ -13,11 +13,11 @@ use lib.Dec.{eqb}
 use borrow.Author.Tests.{eqb-true, eqb-false, not-true}
 use Rattle.octets.proofs.Picks.{on_pick, refuted, and_left, and_right, or_none}
 use Rattle.card.specs.declared.Row.{Row}
-use Rattle.card.specs.declared.tree.Found.{Found}
-use Rattle.card.specs.declared.tree.Found.TheVariants.{At, Nothing}
+use Rattle.std.specs.Option.{option_or}
+use Rattle.std.specs.Prelude.{Option, Some, None}
 use Rattle.card.specs.Row.{entries, row_of, can_be_child}
 use Rattle.card.specs.Sound.{sound_table}
-use Rattle.card.specs.Tree.{or_else, child_with, child, child_df, is_root, root_of}
+use Rattle.card.specs.Tree.{child_with, child, child_df, is_root, root_of}
 use Rattle.card.specs.Promised.{ParentsSmaller, ParentsInside}
 use Rattle.card.proofs.Kin.{child-inside, child-child, root_itself, root_of-parent}
 use Rattle.card.proofs.Promises.{parent-inside, parents_smaller}
@@ -26,29 +26,28 @@ use Rattle.session.specs.Good.{Belongs}
 use Rattle.session.proofs.Finds.{onward}
 
 -- what holds of both findings is so of the first
-on_or : (P : Found → Type 0) (f g : Found) → P f → P g → P (or_else f g)
-unfolding or_else
-on_or P (At e) g h k = h
-on_or P Nothing g h k = k
+on_or : (P : Option ℕ → Type 0) (f g : Option ℕ) → P f → P g → P (option_or f g)
+on_or P (Some e) g h k = h
+on_or P None g h k = k
 
 -- a child is no root
 child_no_root : (r : Row) → can_be_child r ≡ true → is_root r ≡ false
 child_no_root r h = or_none (eqb r.kind 0) (is_root r) (not-true _ h)
 
 -- a finding that belongs to a root, if there is one
-abbrev pub Only : List ℕ → ℕ → Found → Type 0
-Only t root f = (e : ℕ) → f ≡ At e → Belongs t root e
+abbrev pub Only : List ℕ → ℕ → Option ℕ → Type 0
+Only t root f = (e : ℕ) → f ≡ Some e → Belongs t root e
 
 module _ (t : List ℕ) (root : ℕ) where
-  only_none : Only t root Nothing
+  only_none : Only t root None
   only_none e f = absurd (let z : ◌≡◌ {A = ℕ} 0 1 = cc in omega arith)
 
-  only_one : (d : ℕ) → Belongs t root d → Only t root (At d)
+  only_one : (d : ℕ) → Belongs t root d → Only t root (Some d)
   only_one d b e f = let q : d ≡ e = cc in rw q at b
 
-  only_onward : (rest : List ℕ) (found : Found) → ((c : ℕ) → found ≡ At c → Only t root (by_path t c rest)) → Only t root (onward t rest found)
-  only_onward rest (At c) h = h c refl
-  only_onward rest Nothing h = only_none
+  only_onward : (rest : List ℕ) (found : Option ℕ) → ((c : ℕ) → found ≡ Some c → Only t root (by_path t c rest)) → Only t root (onward t rest found)
+  only_onward rest (Some c) h = h c refl
+  only_onward rest None h = only_none
 
 module _ (t files : List ℕ) (sound : sound_table t files ≡ true) where
   small : ParentsSmaller t
@@ -78,7 +77,7 @@ module _ (t files : List ℕ) (sound : sound_table t files ≡ true) where
   -- what SELECT finds
   named-belongs : (root e i : ℕ) → Belongs t root e → Only t root (if_named t e i)
   unfolding if_named
-  named-belongs root e i b = on_pick (Only t root) (eqb (row_of t e).identifier i) (At e) Nothing (λ y. only_one t root e b) (λ y. only_none t root)
+  named-belongs root e i b = on_pick (Only t root) (eqb (row_of t e).identifier i) (Some e) None (λ y. only_one t root e b) (λ y. only_none t root)
 
   above-belongs : (root e i : ℕ) → Belongs t root e → Only t root (above t e i)
   unfolding above child_df
@@ -96,7 +95,7 @@ module _ (t files : List ℕ) (sound : sound_table t files ≡ true) where
   identifier-belongs root d i r b =
       on_or (Only t root) (if_named t root i) _ (named-belongs root root i r)
       (on_or (Only t root) (child t d i) _ (child-belongs root d _ b)
-      (on_pick (Only t root) (eqb d root) Nothing (above t (row_of t d).parent i) (λ y. only_none t root)
+      (on_pick (Only t root) (eqb d root) None (above t (row_of t d).parent i) (λ y. only_none t root)
       (λ z. above-belongs root (row_of t d).parent i (parent-belongs root d b (below_root root d b (eqb-false d root z))))))
 
   pub find-owned : (root d : ℕ) → root < entries t → is_root (row_of t root) ≡ true → Belongs t root d → (p1 : ℕ) («data» : List ℕ) → Only t root (find t root d p1 «data»)

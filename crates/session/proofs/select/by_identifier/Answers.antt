@@ -1,35 +1,16 @@
 -- `session::select::by_identifier` meets its contract. Assumes nothing.
-use mathlib.Core.Path.{refl, sym, ◌∙◌}
-use Rattle.octets.proofs.Picks.{eq_yes, eq_no}
+use Rattle.std.proofs.Common.{arith}
+use borrow.Author.Tests.{eq-eqb, ne_eqb}
+use Rattle.std.proofs.lemmas.Grind.{common_steps}
 use Rattle.card.specs.Tree.{child}
+use Rattle.octets.specs.Choice.{pick}
 use Rattle.session.specs.Select.{by_identifier}
-use Rattle.session.proofs.Finds.{or_first, or_second}
 use Rattle.session.proofs.select.by_identifier.Goals as goal
 
-pub returns-in-At : goal.returns-in-At
-unfolding by_identifier
-returns-in-At c = or_first _ _ (sym c.if_named.ensures ∙ c.in-At.is)
-
-pub returns-in-At-child : goal.returns-in-At-child
-unfolding by_identifier child
-returns-in-At-child c =
-    or_second (sym c.if_named.ensures ∙ c.in_default.is)
-    (or_first _ _ (sym c.child.ensures ∙ c.in-At-child.is))
-
 pub returns-then-directory-root : goal.returns-then-directory-root
-unfolding by_identifier child
-returns-then-directory-root c =
-    or_second (sym c.if_named.ensures ∙ c.in_default.is)
-    (or_second (sym c.child.ensures ∙ c.in_default-child.is) (eq_yes _ _ _ c.if-directory-root.true refl))
-
-pub above-requires : goal.above-requires
-above-requires c =
-    let p = c.requires in
-    rw c.row_at-parent.ensures.0 (p.parents_inside _ p.directory_inside)
+unfolding by_identifier child pick
+returns-then-directory-root c = let e = eq-eqb _ _ c.if-directory-root.true in grind (arith, common_steps)
 
 pub returns : goal.returns
-unfolding by_identifier child
-returns c =
-    or_second (sym c.if_named.ensures ∙ c.in_default.is)
-    (or_second (sym c.child.ensures ∙ c.in_default-child.is)
-    (eq_no _ _ _ c.if-directory-root.false (rw c.row_at-parent.ensures.0 at c.above.ensures)))
+unfolding by_identifier child pick
+returns c = let e = ne_eqb _ _ c.if-directory-root.false in grind (arith, common_steps)
