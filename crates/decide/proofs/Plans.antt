@@ -17,7 +17,7 @@ use borrow.Author.Tests.{leb-true, ltb-false, eqb-true, le-ltb, ne_eqb}
 use Rattle.std.specs.Prelude.{Result, Ok, Err}
 use Rattle.octets.specs.Choice.{pick}
 use Rattle.octets.proofs.Picks.{pick_true, pick-false, and_left, and_right, on_pick, either}
-use Rattle.card.specs.declared.tree.Found.TheVariants as Found
+use Rattle.std.specs.Prelude.{Some, None}
 use Rattle.card.specs.Row.{Card}
 use Rattle.journal.specs.Promised.{HasRoom}
 use Rattle.journal.specs.Changes.{cost}
@@ -116,11 +116,11 @@ module _ (w : Situation) where
     select-behind : decided w (first_failing w select_checks) ≡ pick (not (is_found w.found)) (failed w.session NotFound) (done_by w.command.instruction w)
     select-behind = select_checks_lem ∙ pick-false _ _ _ (ap not h)
 
-    pub select_lost : w.found ≡ Found.Nothing → failed w.session NotFound ≡ decided w (first_failing w select_checks)
+    pub select_lost : w.found ≡ None → failed w.session NotFound ≡ decided w (first_failing w select_checks)
     unfolding is_found
     select_lost g = sym (select-behind ∙ pick_true _ _ _ (ap (λ f. not (is_found f)) g))
 
-    pub select-found : (e : ℕ) → w.found ≡ Found.At e → w.command.instruction ≡ ins.select → select_entry w.format w.session w.command.p2 e w.row ≡ decided w (first_failing w select_checks)
+    pub select-found : (e : ℕ) → w.found ≡ Some e → w.command.instruction ≡ ins.select → select_entry w.format w.session w.command.p2 e w.row ≡ decided w (first_failing w select_checks)
     unfolding is_found done_by select pick
     select-found e g k =
         sym (select-behind ∙ pick-false _ _ _ (ap (λ f. not (is_found f)) g) ∙ ap (λ (i : ℕ). done_by i w) k ∙ ap (select w.format w.session w.command.p2 w.row) g)

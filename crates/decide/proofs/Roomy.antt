@@ -10,8 +10,7 @@ use Rattle.std.specs.Prelude.{Ok}
 use Rattle.octets.proofs.Picks.{on_pick, either}
 use Rattle.octets.specs.Choice.{pick}
 use Rattle.card.specs.declared.Row.{Row}
-use Rattle.card.specs.declared.tree.Found.{Found}
-use Rattle.card.specs.declared.tree.Found.TheVariants.{At, Nothing}
+use Rattle.std.specs.Prelude.{Option, Some, None}
 use Rattle.card.specs.Row.{Card}
 use Rattle.journal.specs.Promised.{HasRoom}
 use Rattle.journal.specs.Changes.{Write, cost}
@@ -35,10 +34,10 @@ unfolding produced
 produced-writes Compact s word d ws = refl
 produced-writes Expanded s word d ws = refl
 
-select-writes : (format : Format) (s : Standing) (p2 : ℕ) (r : Row) (found : Found) → (select format s p2 r found).writes ≡ []
+select-writes : (format : Format) (s : Standing) (p2 : ℕ) (r : Row) (found : Option ℕ) → (select format s p2 r found).writes ≡ []
 unfolding select select_entry failed done
-select-writes format s p2 r (At e) = on_pick (λ (p : Plan). p.writes ≡ []) _ _ _ (λ y. refl) (λ y. produced-writes format _ _ _ [])
-select-writes format s p2 r Nothing = refl
+select-writes format s p2 r (Some e) = on_pick (λ (p : Plan). p.writes ≡ []) _ _ _ (λ y. refl) (λ y. produced-writes format _ _ _ [])
+select-writes format s p2 r None = refl
 
 select_free : (i : ℕ) (w : Situation) → i ≡ ins.select → (done_by i w).writes ≡ []
 unfolding done_by pick

@@ -2,8 +2,7 @@
 use Rattle.std.specs.Prelude.{ℕ, ◌+◌, ◌/◌, ◌%◌, Bool, true, false, not, ◌&&◌, ◌||◌, List, [], ◌∷◌, length, leb, ltb, eqb, Result, Ok, Err}
 use Rattle.octets.specs.Choice.{pick}
 use Rattle.card.specs.declared.Row.{Row}
-use Rattle.card.specs.declared.tree.Found.{Found}
-use Rattle.card.specs.declared.tree.Found.TheVariants.{At, Nothing}
+use Rattle.std.specs.Prelude.{Option, Some, None}
 use Rattle.card.specs.Row.{is_transparent, is_cyclic, has_records, is_deactivated}
 use Rattle.journal.specs.Changes.{cost}
 use Rattle.session.specs.Session.{none}
@@ -47,9 +46,9 @@ unfoldable pub path_length_fits : ℕ → ℕ → Bool
 path_length_fits p1 n = pick (eqb p1 0) (eqb n 2) (eqb (n % 2) 0 && (leb 2 n && leb n 16))
 
 -- whether SELECT found an entry
-unfoldable pub is_found : Found → Bool
-is_found (At e) = true
-is_found Nothing = false
+unfoldable pub is_found : Option ℕ → Bool
+is_found (Some e) = true
+is_found None = false
 
 -- the kinds of file that an instruction works on; "INCREASE, .. cyclic"; "kind (INCREASE: or record above 127) 6981"
 unfoldable pub kind_fits : ℕ → Row → Bool

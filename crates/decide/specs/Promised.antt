@@ -3,7 +3,7 @@
 use Rattle.std.specs.Prelude.{ℕ, ◌+◌, ◌≤◌, ◌<◌, ◌≡◌, Bool, true, not, ◌&&◌, List, [], ◌∷◌, ◌++◌, length, ltb, eqb, Result}
 use Rattle.octets.specs.Choice.{pick}
 use Rattle.card.specs.declared.Row.{Row}
-use Rattle.card.specs.declared.tree.Found.TheVariants.{At}
+use Rattle.std.specs.Prelude.{Some}
 use Rattle.card.specs.Row.{has_records, Card, lent, entries, row_of}
 use Rattle.card.specs.Sound.{sound_table}
 use Rattle.journal.specs.Changes.{cost}
@@ -77,7 +77,7 @@ pub record FoundFits (t : List ℕ) (e : ℕ) : Type 0 where
 pub record DecideSelectAsks (t «data» : List ℕ) (s : Standing) (c : Command) (bytes : List ℕ) : Type 0 where
   pub instruction : c.instruction ≡ ins.select
   pub stands : StandsIn t s.root s.directory
-  pub found : (e : ℕ) → find t s.root s.directory c.p1 «data» ≡ At e → FoundFits t e
+  pub found : (e : ℕ) → find t s.root s.directory c.p1 «data» ≡ Some e → FoundFits t e
   pub made : length bytes ≡ most_waiting
 
 -- what the check of the journal's room goes by: the data are counted by a byte and the used bytes by two, they are no more than the

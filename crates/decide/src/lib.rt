@@ -17,7 +17,6 @@ ghost use Rattle.decide.specs.Promised.{OfSelect, roomed, responded, DecideSelec
 
 use crate::checks::{formal_check, path_length_fits, unknown_check};
 use crate::file::decide_on_file;
-use card::tree::Found;
 use command::checks::Check;
 use command::instruction::{
     ACTIVATE, DEACTIVATE, GET_RESPONSE, INCREASE, READ_BINARY, READ_RECORD, SEARCH, SELECT,
@@ -63,7 +62,7 @@ fn decide_select(
     if !path_length_fits(c.p1, data.len()) {
         return failed(s, Check::WrongPathLength);
     }
-    let Found::At(e) = session::select::find(
+    let Some(e) = session::select::find(
         table,
         s.root as usize,
         s.directory as usize,

@@ -19,8 +19,7 @@ use Rattle.octets.proofs.Picks.{on_pick}
 use Rattle.octets.specs.Bytes.{part, bytes_of}
 use Rattle.octets.proofs.Numbers.{bytes_of-length}
 use Rattle.card.specs.declared.Row.{Row}
-use Rattle.card.specs.declared.tree.Found.{Found}
-use Rattle.card.specs.declared.tree.Found.TheVariants.{At, Nothing}
+use Rattle.std.specs.Prelude.{Option, Some, None}
 use Rattle.card.specs.Row.{Card, row_of, is_cyclic, has_records, is_deactivated}
 use Rattle.card.specs.Sound.{most_file_bytes, record_count, state_sound, own_sound, sound_table}
 use Rattle.card.proofs.Promises.{few_bytes, file-inside, record_some, record_short, records-some, records-few, entry_own}
@@ -190,10 +189,10 @@ module _ (format : Format) (card : Card) (sound : sound_table card.table card.fi
       (λ y. fit_done card c after g format _ [] (kept_well (select_word r) word) tt)
       (λ y. fit_produced card c after g format _ (fcp r) [] word (fcp-some r) (omega arith) tt))
 
-  pub fit_select : (p1 p2 : ℕ) («data» : List ℕ) (found : Found) → find card.table s.root s.directory p1 «data» ≡ found → Fit format card s.root c (select format s p2 (row_found card.table found) found)
+  pub fit_select : (p1 p2 : ℕ) («data» : List ℕ) (found : Option ℕ) → find card.table s.root s.directory p1 «data» ≡ found → Fit format card s.root c (select format s p2 (row_found card.table found) found)
   unfolding select row_found
-  fit_select p1 p2 «data» (At e) f = entry-selected p2 e (find-belongs card.table card.files sound s good p1 «data» e f)
-  fit_select p1 p2 «data» Nothing f = fit_failed card c s good format NotFound not_found
+  fit_select p1 p2 «data» (Some e) f = entry-selected p2 e (find-belongs card.table card.files sound s good p1 «data» e f)
+  fit_select p1 p2 «data» None f = fit_failed card c s good format NotFound not_found
 
   -- on the current file
   module _ (some : 1 ≤ s.file) where

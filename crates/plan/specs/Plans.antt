@@ -3,8 +3,7 @@ use Rattle.std.specs.Prelude.{ℕ, ◌+◌, ◌-◌, ◌*◌, min, List, [], ◌
 use Rattle.octets.specs.Choice.{pick}
 use Rattle.octets.specs.Bytes.{bytes_of}
 use Rattle.card.specs.declared.Row.{Row}
-use Rattle.card.specs.declared.tree.Found.{Found}
-use Rattle.card.specs.declared.tree.Found.TheVariants.{At, Nothing}
+use Rattle.std.specs.Prelude.{Option, Some, None}
 use Rattle.card.specs.Row.{is_cyclic, is_deactivated, activated, deactivated, place_of_state}
 use Rattle.card.specs.Records.{record_offset}
 use Rattle.journal.specs.declared.Memory.TheVariants.{Table}
@@ -29,7 +28,7 @@ pub record Situation : Type 0 where
   pub command : Command
   pub «data» : List ℕ
   pub session : Standing
-  pub found : Found
+  pub found : Option ℕ
   pub row : Row
   pub file : File
 
@@ -44,9 +43,9 @@ select_entry format s p2 e r =
     (done (selected s e r) (select_word r) [])
     (produced format (selected s e r) (select_word r) (fcp r) [])
 
-unfoldable pub select : Format → Standing → ℕ → Row → Found → Plan
-select format s p2 r (At e) = select_entry format s p2 e r
-select format s p2 r Nothing = failed s NotFound
+unfoldable pub select : Format → Standing → ℕ → Row → Option ℕ → Plan
+select format s p2 r (Some e) = select_entry format s p2 e r
+select format s p2 r None = failed s NotFound
 
 -- "offset P1P2"
 unfoldable pub offset_of : Command → ℕ

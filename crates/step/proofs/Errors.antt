@@ -6,8 +6,7 @@ use mathlib.Core.List.{List, [], ◌∷◌}
 use Prim.Native.Nat.{ℕ}
 use Rattle.octets.proofs.Picks.{on_pick}
 use Rattle.card.specs.declared.Row.{Row}
-use Rattle.card.specs.declared.tree.Found.{Found}
-use Rattle.card.specs.declared.tree.Found.TheVariants.{At, Nothing}
+use Rattle.std.specs.Prelude.{Option, Some, None}
 use Rattle.journal.specs.Changes.{Write}
 use Rattle.session.specs.declared.Standing.{Standing}
 use Rattle.command.specs.declared.Format.{Format}
@@ -50,10 +49,10 @@ module _ (s : Standing) where
   still_produced Compact s' word d ws = still_well (produced Compact s' word d ws) refl
   still_produced Expanded s' word d ws = still_well (produced Expanded s' word d ws) refl
 
-  still_select : (format : Format) (p2 : ℕ) (r : Row) (found : Found) → Still (select format s p2 r found)
+  still_select : (format : Format) (p2 : ℕ) (r : Row) (found : Option ℕ) → Still (select format s p2 r found)
   unfolding select select_entry
-  still_select format p2 r (At e) = on_pick Still _ _ _ (λ y. still_done _ _ _) (λ y. still_produced format _ _ _ _)
-  still_select format p2 r Nothing = still_failed NotFound
+  still_select format p2 r (Some e) = on_pick Still _ _ _ (λ y. still_done _ _ _) (λ y. still_produced format _ _ _ _)
+  still_select format p2 r None = still_failed NotFound
 
   still_read : (format : Format) (c : Command) (f : File) → Still (read_binary format c s f)
   unfolding read_binary

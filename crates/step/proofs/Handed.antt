@@ -14,8 +14,7 @@ use lib.ListN.{length}
 use borrow.Author.Tests.{not-false}
 use Rattle.octets.specs.Choice.{pick}
 use Rattle.octets.proofs.Picks.{on_pick}
-use Rattle.card.specs.declared.tree.Found.{Found}
-use Rattle.card.specs.declared.tree.Found.TheVariants.{At, Nothing}
+use Rattle.std.specs.Prelude.{Option, Some, None}
 use Rattle.card.specs.Row.{Card, is_cyclic}
 use Rattle.journal.specs.Sound.{sound_card}
 use Rattle.journal.specs.declared.Memory.{Memory}
@@ -84,10 +83,10 @@ module _ (w : Situation) where
   other_case : {A : Type 0} {i : ℕ} (x : ℕ) → hands_out (case_of x p2) ≡ true → i ≡ x → hands_out (case_of i p2) ≡ false → A
   other_case x y e h = absurd (false≢true (sym h ∙ ap (λ (k : ℕ). hands_out (case_of k p2)) e ∙ y))
 
-  bare_select : (found : Found) → hands_out (case_of ins.select p2) ≡ false → Bare (select w.format w.session p2 w.row found)
+  bare_select : (found : Option ℕ) → hands_out (case_of ins.select p2) ≡ false → Bare (select w.format w.session p2 w.row found)
   unfolding select select_entry case_of pick done failed
-  bare_select (At e) h = on_pick Bare (eqb p2 no_data) _ _ (λ y. refl) (λ n. absurd (false≢true (sym (rw n at h))))
-  bare_select Nothing h = refl
+  bare_select (Some e) h = on_pick Bare (eqb p2 no_data) _ _ (λ y. refl) (λ n. absurd (false≢true (sym (rw n at h))))
+  bare_select None h = refl
 
   bare_by : (i : ℕ) → is_known i ≡ true → hands_out (case_of i p2) ≡ false → Bare (done_by i w)
   unfolding update_binary update_record switch case_of pick done

@@ -10,7 +10,7 @@ use Prim.Native.Nat.{ℕ}
 use native.Mathlib.Omega.{arith}
 use lib.ListN.{length}
 use Rattle.octets.proofs.Picks.{told-true}
-use Rattle.card.specs.declared.tree.Found.TheVariants as Found
+use Rattle.std.specs.Prelude.{Some}
 use Rattle.session.specs.Select.{find, row_found}
 use Rattle.command.specs.declared.Command.{Command}
 use Rattle.command.specs.declared.checks.Check.TheVariants.{WrongPathLength, NotFound}
@@ -69,13 +69,13 @@ returns-in_default c = (
 -- an entry is found
 module _ (c : Past-After-known_told) where
   abbrev found : ℕ
-  found = c.in-At.e
+  found = c.in-Some.e
 
   abbrev origin : Start
   origin = start c.before.before.before.before
 
-  there : find origin.args.table.now origin.args.s.root origin.args.s.directory origin.args.c.p1 origin.args.«data».now ≡ Found.At found
-  there = sym c.find.ensures ∙ c.in-At.is
+  there : find origin.args.table.now origin.args.s.root origin.args.s.directory origin.args.c.p1 origin.args.«data».now ≡ Some found
+  there = sym c.find.ensures ∙ c.in-Some.is
 
 pub row_at-requires : goal.row_at-requires
 row_at-requires c =
