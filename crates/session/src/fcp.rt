@@ -13,6 +13,7 @@ fn of_directory(r: Row) -> [u8; 13]
     requires { (is_directory r ≡ true) × RowFits r }
     ensures { result ≡ spec.fcp r }
 {
+    let [high, low] = octets::bytes2(r.identifier);
     [
         0x62,
         11,
@@ -22,8 +23,8 @@ fn of_directory(r: Row) -> [u8; 13]
         0x21,
         0x83,
         2,
-        (r.identifier / 256 % 256) as u8,
-        (r.identifier % 256) as u8,
+        high,
+        low,
         0x8A,
         1,
         r.state as u8,
@@ -35,6 +36,8 @@ fn of_transparent(r: Row) -> [u8; 17]
     requires { (is_transparent r ≡ true) × RowFits r }
     ensures { result ≡ spec.fcp r }
 {
+    let [high, low] = octets::bytes2(r.identifier);
+    let [size_high, size_low] = octets::bytes2(r.size);
     [
         0x62,
         15,
@@ -44,15 +47,15 @@ fn of_transparent(r: Row) -> [u8; 17]
         0x21,
         0x83,
         2,
-        (r.identifier / 256 % 256) as u8,
-        (r.identifier % 256) as u8,
+        high,
+        low,
         0x8A,
         1,
         r.state as u8,
         0x80,
         2,
-        (r.size / 256 % 256) as u8,
-        (r.size % 256) as u8,
+        size_high,
+        size_low,
     ]
 }
 
@@ -73,6 +76,9 @@ fn of_records(r: Row) -> [u8; 20]
     ensures { result ≡ spec.fcp r }
 {
     let count = card::records::record_count(r);
+    let [high, low] = octets::bytes2(r.identifier);
+    let [size_high, size_low] = octets::bytes2(r.size);
+    let [record_high, record_low] = octets::bytes2(r.record_length);
     [
         0x62,
         18,
@@ -80,20 +86,20 @@ fn of_records(r: Row) -> [u8; 20]
         5,
         record_descriptor(r),
         0x21,
-        (r.record_length / 256 % 256) as u8,
-        (r.record_length % 256) as u8,
+        record_high,
+        record_low,
         count as u8,
         0x83,
         2,
-        (r.identifier / 256 % 256) as u8,
-        (r.identifier % 256) as u8,
+        high,
+        low,
         0x8A,
         1,
         r.state as u8,
         0x80,
         2,
-        (r.size / 256 % 256) as u8,
-        (r.size % 256) as u8,
+        size_high,
+        size_low,
     ]
 }
 

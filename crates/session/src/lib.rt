@@ -30,6 +30,7 @@ pub struct Session {
 }
 
 // Returns the session that a script of an application starts with: "255 waiting bytes of zero, none of them valid".
+#[tactic(auto, unfolding(crate::specs::Session::start_standing, crate::specs::Session::start_waiting))]
 pub fn start(application: usize) -> Session
     requires { application < 256 }
     ensures { result ≡ spec.start application }
@@ -50,14 +51,16 @@ pub fn start(application: usize) -> Session
 }
 
 // Returns where the script stands once the first `valid` of the waiting bytes wait, with `word` kept for them.
+#[tactic(auto, unfolding(crate::specs::Session::waits))]
 pub fn waits(s: Standing, valid: usize, word: usize) -> Standing
     requires { (valid < 256) × (word < 65536) }
     ensures { result ≡ spec.waits s valid word }
 {
-    let mut next = s;
-    next.valid = valid as u8;
-    next.word = word as u16;
-    next
+    Standing {
+        valid: valid as u8,
+        word: word as u16,
+        ..s
+    }
 }
 
 // Returns where the script stands once what waited is dropped.
@@ -68,25 +71,29 @@ pub fn dropped(s: Standing) -> Standing
 }
 
 // Returns where the script stands once its record number is `number`.
+#[tactic(auto, unfolding(crate::specs::Session::at_record))]
 pub fn at_record(s: Standing, number: usize) -> Standing
     requires { number < 256 }
     ensures { result ≡ spec.at_record s number }
 {
-    let mut next = s;
-    next.record_number = number as u8;
-    next
+    Standing {
+        record_number: number as u8,
+        ..s
+    }
 }
 
 // Returns where the script stands once it has moved to a directory, a file and a record number.
+#[tactic(auto, unfolding(crate::specs::Session::moved))]
 fn moved(s: Standing, directory: usize, file: usize, number: u8) -> Standing
     requires { (directory < 256) × (file < 256) }
     ensures { result ≡ spec.moved s directory file number }
 {
-    let mut next = s;
-    next.directory = directory as u8;
-    next.file = file as u8;
-    next.record_number = number;
-    next
+    Standing {
+        directory: directory as u8,
+        file: file as u8,
+        record_number: number,
+        ..s
+    }
 }
 
 // Returns where the script stands after entry e, with its row r, was selected.

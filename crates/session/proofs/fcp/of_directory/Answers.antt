@@ -6,4 +6,4 @@ use Rattle.session.proofs.fcp.of_directory.Goals as goal
 
 pub returns : goal.returns
 unfolding fcp83 fcp8a bytes2
-returns c = directory-fcp _ c.requires.0
+returns c = rw c.bytes2.ensures (directory-fcp c.args.r c.requires.0)

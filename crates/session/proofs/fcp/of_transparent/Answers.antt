@@ -6,4 +6,4 @@ use Rattle.session.proofs.fcp.of_transparent.Goals as goal
 
 pub returns : goal.returns
 unfolding fcp83 fcp8a bytes2
-returns c = transparent_fcp _ c.requires.0
+returns c = rw (c.bytes2.ensures, c.bytes2-2.ensures) (transparent_fcp c.args.r c.requires.0)
