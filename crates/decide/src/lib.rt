@@ -16,7 +16,7 @@ ghost use Rattle.plan.specs.Promised.{writes_of, plan_of, Fits, CostOfAsks};
 ghost use Rattle.decide.specs.Promised.{OfSelect, roomed, responded, DecideSelectAsks, WithRoomAsks, DecideAsks, Decided};
 
 use crate::checks::{formal_check, path_length_fits, unknown_check};
-use crate::file::decide_on_file;
+use crate::file::{Asked, decide_on_file};
 use command::checks::Check;
 use command::instruction::{
     ACTIVATE, DEACTIVATE, GET_RESPONSE, INCREASE, READ_BINARY, READ_RECORD, SEARCH, SELECT,
@@ -118,6 +118,16 @@ pub fn decide(
     ensures { Decided (lent table.now files.now journal.now) «data».now made.new (planned (situation format domain c «data».now s (lent table.now files.now journal.now))) result }
 {
     let lc = data.len();
+    let asked = Asked {
+        format,
+        domain,
+        command: c,
+        data,
+        session: s,
+        table,
+        files,
+        journal,
+    };
     match c.instruction {
         SELECT => match formal_check::<SELECT>(c, lc, domain) {
             Ok(()) => decide_select(format, c, data, s, table, made),
@@ -127,28 +137,14 @@ pub fn decide(
             Ok(()) => get_response(c, s),
             Err(k) => failed(s, k),
         },
-        READ_BINARY => decide_on_file::<READ_BINARY>(
-            format, domain, c, data, s, table, files, journal, made,
-        ),
-        UPDATE_BINARY => decide_on_file::<UPDATE_BINARY>(
-            format, domain, c, data, s, table, files, journal, made,
-        ),
-        READ_RECORD => decide_on_file::<READ_RECORD>(
-            format, domain, c, data, s, table, files, journal, made,
-        ),
-        UPDATE_RECORD => decide_on_file::<UPDATE_RECORD>(
-            format, domain, c, data, s, table, files, journal, made,
-        ),
-        SEARCH => decide_on_file::<SEARCH>(format, domain, c, data, s, table, files, journal, made),
-        INCREASE => decide_on_file::<INCREASE>(
-            format, domain, c, data, s, table, files, journal, made,
-        ),
-        DEACTIVATE => decide_on_file::<DEACTIVATE>(
-            format, domain, c, data, s, table, files, journal, made,
-        ),
-        ACTIVATE => decide_on_file::<ACTIVATE>(
-            format, domain, c, data, s, table, files, journal, made,
-        ),
+        READ_BINARY => decide_on_file::<READ_BINARY>(asked, made),
+        UPDATE_BINARY => decide_on_file::<UPDATE_BINARY>(asked, made),
+        READ_RECORD => decide_on_file::<READ_RECORD>(asked, made),
+        UPDATE_RECORD => decide_on_file::<UPDATE_RECORD>(asked, made),
+        SEARCH => decide_on_file::<SEARCH>(asked, made),
+        INCREASE => decide_on_file::<INCREASE>(asked, made),
+        DEACTIVATE => decide_on_file::<DEACTIVATE>(asked, made),
+        ACTIVATE => decide_on_file::<ACTIVATE>(asked, made),
         _ => failed(s, unknown_check(c)),
     }
 }
