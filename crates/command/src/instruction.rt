@@ -55,7 +55,7 @@ pub fn is_switch(i: usize) -> bool
 pub fn is_known(i: usize) -> bool
     ensures { result ≡ spec.is_known i }
 {
-    carries_data(i) | (is_outgoing(i) | is_switch(i))
+    carries_data(i) || is_outgoing(i) || is_switch(i)
 }
 
 // Returns whether an instruction works on transparent files.

@@ -27,7 +27,7 @@ fn wrong_case(i: usize, c: Command, lc: usize) -> bool
     requires { c.instruction ≡ i }
     ensures { result ≡ spec.wrong_case c lc }
 {
-    (c.case != case_of(i, c.p2)) | (carries_data(i) & (lc == 0))
+    c.case != case_of(i, c.p2) || (carries_data(i) && lc == 0)
 }
 
 // Returns whether an instruction takes these P1 and P2.
@@ -36,7 +36,7 @@ fn parameters_fit(i: usize, p1: usize, p2: usize) -> bool
     ensures { result ≡ spec.parameters_fit i p1 p2 }
 {
     if i == SELECT {
-        return matches!(p1, 0x00 | 0x08 | 0x09) & matches!(p2, NO_DATA | WITH_FCP);
+        return matches!(p1, 0x00 | 0x08 | 0x09) && matches!(p2, NO_DATA | WITH_FCP);
     }
     if is_binary(i) {
         return p1 <= 0x7F;
@@ -45,16 +45,16 @@ fn parameters_fit(i: usize, p1: usize, p2: usize) -> bool
         return matches!(p2, SEARCH_FORWARD | SEARCH_BACKWARD);
     }
     if is_record(i) {
-        return (p2 == MODE_ABSOLUTE) | (matches!(p2, MODE_NEXT | MODE_PREVIOUS) & (p1 == 0x00));
+        return p2 == MODE_ABSOLUTE || (matches!(p2, MODE_NEXT | MODE_PREVIOUS) && p1 == 0x00);
     }
-    (p1 == 0x00) & (p2 == 0x00)
+    p1 == 0x00 && p2 == 0x00
 }
 
 // Returns whether the access domain shuts an instruction out.
 fn wrong_domain(i: usize, domain: usize) -> bool
     ensures { result ≡ spec.wrong_domain i domain }
 {
-    (domain == 0xFF) & (i != GET_RESPONSE)
+    domain == 0xFF && i != GET_RESPONSE
 }
 
 // Meets the checks that every command meets, for a command with the instruction I and `lc` data bytes: the first that fails is the
@@ -73,7 +73,7 @@ pub fn formal_check<const I: usize>(c: Command, lc: usize, domain: usize) -> Res
     if c.class != class_of(I) {
         return Err(Check::WrongClass);
     }
-    if is_outgoing(I) & c.after {
+    if is_outgoing(I) && c.after {
         return Err(Check::BytesAfter);
     }
     if wrong_case(I, c, lc) {
@@ -107,7 +107,7 @@ pub fn path_length_fits(p1: usize, n: usize) -> bool
     if p1 == 0 {
         return n == 2;
     }
-    (n % 2 == 0) & ((2 <= n) & (n <= 16))
+    n % 2 == 0 && (2..=16).contains(&n)
 }
 
 // Returns whether an instruction works on a file of this kind.
@@ -122,7 +122,7 @@ fn kind_fits(i: usize, r: Row) -> bool
         return matches!(r.kind, card::LINEAR | card::CYCLIC);
     }
     if i == INCREASE {
-        return (r.kind == card::CYCLIC) & (r.record_length <= LONGEST_INCREASE);
+        return r.kind == card::CYCLIC && r.record_length <= LONGEST_INCREASE;
     }
     true
 }
@@ -131,14 +131,14 @@ fn kind_fits(i: usize, r: Row) -> bool
 fn wrong_mode(i: usize, p2: usize, r: Row) -> bool
     ensures { result ≡ spec.wrong_mode i p2 r }
 {
-    (i == UPDATE_RECORD) & (r.kind == card::CYCLIC) & (p2 != MODE_PREVIOUS)
+    i == UPDATE_RECORD && r.kind == card::CYCLIC && p2 != MODE_PREVIOUS
 }
 
 // Returns whether the file is deactivated and this shuts the instruction out.
 fn is_shut(i: usize, r: Row) -> bool
     ensures { result ≡ spec.is_shut i r }
 {
-    (r.state == card::DEACTIVATED) & !is_switch(i)
+    r.state == card::DEACTIVATED && !is_switch(i)
 }
 
 // Returns whether the file's NEVER bits shut an instruction out.
@@ -153,7 +153,7 @@ fn is_never(i: usize, r: Row) -> bool
 fn offset_outside(i: usize, offset: usize, r: Row) -> bool
     ensures { result ≡ spec.offset_outside i offset r }
 {
-    is_binary(i) & (r.size <= offset)
+    is_binary(i) && r.size <= offset
 }
 
 // Returns whether a command names a record, from the current record number, that the file has not.
@@ -165,7 +165,7 @@ fn no_record(i: usize, c: Command, number: usize, r: Row) -> bool
     if !is_record(i) {
         return false;
     }
-    if (i == UPDATE_RECORD) & (r.kind == card::CYCLIC) {
+    if i == UPDATE_RECORD && r.kind == card::CYCLIC {
         return false;
     }
     !has_record(r, record_of(c, number, r))
@@ -181,7 +181,7 @@ fn length_fits(i: usize, offset: usize, p3: usize, lc: usize, r: Row) -> bool
         return offset + lc <= r.size;
     }
     if i == READ_RECORD {
-        return (p3 == 0) | (p3 == r.record_length);
+        return p3 == 0 || p3 == r.record_length;
     }
     if i == UPDATE_RECORD {
         return lc == r.record_length;

@@ -95,5 +95,5 @@ pub fn has_record(r: Row, number: usize) -> bool
     requires { 1 ≤ r.record_length }
     ensures { result ≡ spec.has_record r number }
 {
-    (1 <= number) & (number <= record_count(r))
+    1 <= number && number <= record_count(r)
 }
