@@ -9,6 +9,7 @@ use native.Mathlib.Omega.{arith}
 use lib.Dec.{leb, ltb, eqb}
 use lib.ListN.{length}
 use borrow.Author.Tests.{leb-true, leb-false, ltb-true, ltb-false, eqb-true, not-false}
+use Rattle.std.specs.Prelude.{Option, Result, Ok, Err}
 use Rattle.octets.specs.Choice.{pick}
 use Rattle.octets.specs.Bytes.{byte, AllBytes, num_at}
 use Rattle.octets.proofs.Picks.{and_left, and_right, or_either, on_pick, either}
@@ -17,31 +18,27 @@ use Rattle.tlv.specs.declared.lengths.Length.TheVariants as lengths
 use Rattle.plan.specs.Plans.{most_read}
 use Rattle.command.specs.declared.Format.TheVariants as formats
 use Rattle.answers.specs.declared.words.Words.TheVariants as words
-use Rattle.answers.specs.declared.words.Worded.{Worded}
-use Rattle.answers.specs.declared.words.Worded.TheVariants as worded
-use Rattle.answers.specs.declared.results.Sized.{Sized}
-use Rattle.answers.specs.declared.results.Sized.TheVariants as sized
 use Rattle.answers.specs.declared.results.Piece.{Piece}
 use Rattle.answers.specs.declared.results.Piece.TheVariants as pieces
 use Rattle.answers.specs.declared.results.Told.{Told}
 use Rattle.answers.specs.declared.turns.Turn.{Turn}
-use Rattle.answers.specs.declared.Answered.{Answered}
+use Rattle.answers.specs.declared.Summary.{Summary}
 use Rattle.answers.specs.Words.{has_data}
 use Rattle.answers.specs.Results.{piece_at, compact_word, compact_data, data_fit, compact_told, compact_at, piece_told, result_at}
 use Rattle.answers.specs.Answers.{data_read, word_read, compact_read, first_turn, answered_by, results_read}
 use Rattle.answers.specs.Answers.{count_read, count_sized, count_at, definite_by, definite_read, indefinite_read, expanded_read, read_answer}
-use Rattle.answers.specs.Promised.{SizedFits, PieceFits, ToldFits, TurnFits, AnsweredFits}
+use Rattle.answers.specs.Promised.{SizedFits, PieceFits, ToldFits, AnsweredFits}
 use Rattle.answers.proofs.Places.{there, or_first, WordedFits, word_fits, LengthLies, length_lies, sized-fits}
-use Rattle.answers.proofs.Places.{piece_fits, past-bad, turns_fit}
+use Rattle.answers.proofs.Places.{piece_fits, past_bad, ReadFits, turns_fit}
 
 -- ---- a result on its own
 
-piece_told-fits : (size at : ℕ) (piece : Piece) → PieceFits size at piece → ToldFits size at (piece_told piece)
+piece_told-fits : (size at : ℕ) (piece : Result Piece ℕ) → PieceFits size at piece → ToldFits size at (piece_told piece)
 unfolding PieceFits ToldFits piece_told
-piece_told-fits size at (pieces.Result word from count) fits =
+piece_told-fits size at (Ok (pieces.Result word from count)) fits =
     record { further = fits.further; inside = omega (arith, fits.inside); small = fits.small; few = fits.few }
-piece_told-fits size at (pieces.BadFormat code place) fits = fits.2
-piece_told-fits size at (pieces.Bad place) fits = tt
+piece_told-fits size at (Ok (pieces.BadFormat code place)) fits = fits.2
+piece_told-fits size at (Err place) fits = tt
 
 -- few data bytes can stand behind a word
 data_few : (word count : ℕ) → data_fit word count ≡ true → count < 65536
@@ -52,9 +49,9 @@ data_few word count fit =
     (λ e. omega (arith, leb-true count 256 (and_right (has_data word) (leb count 256) e)))
     (or_either (eqb count 0) (has_data word && leb count 256) fit)
 
-compact_told-fits : (size end : ℕ) (w : Worded) → end ≤ size → WordedFits size 0 compact_word w → ToldFits size compact_word (compact_told end w)
+compact_told-fits : (size end : ℕ) (w : Result ℕ ℕ) → end ≤ size → WordedFits size 0 compact_word w → ToldFits size compact_word (compact_told end w)
 unfolding WordedFits ToldFits compact_told
-compact_told-fits size end (worded.Word word) inside fits =
+compact_told-fits size end (Ok word) inside fits =
     on_pick (ToldFits size compact_word) (leb compact_data end && data_fit word (end - compact_data)) _ _
     (λ both.
     let least = leb-true 3 end (and_left (leb compact_data end) (data_fit word (end - compact_data)) both) in
@@ -65,7 +62,7 @@ compact_told-fits size end (worded.Word word) inside fits =
       few = data_few word (end - compact_data) (and_right (leb compact_data end) (data_fit word (end - compact_data)) both);
     })
     (λ other. tt)
-compact_told-fits size end (worded.Bad place) inside fits = tt
+compact_told-fits size end (Err place) inside fits = tt
 
 module _ (answer : List ℕ) (bytes : AllBytes answer) where
   expanded-told-fits : (end at : ℕ) → ToldFits (length answer) at (piece_told (piece_at answer true end at))
@@ -73,7 +70,7 @@ module _ (answer : List ℕ) (bytes : AllBytes answer) where
   expanded-told-fits end at =
       ⊎_elim
       (λ here. piece_told-fits (length answer) at _ (piece_fits answer bytes at true end (ltb-true at (length answer) here)))
-      (λ past. rw (past-bad answer at true end (ltb-false at (length answer) past)) tt)
+      (λ past. rw (past_bad answer at true end (ltb-false at (length answer) past)) tt)
       (either (ltb at (length answer)))
 
   pub told-fits : (format at end : ℕ) → ToldFits (length answer) at (result_at format answer at end)
@@ -89,7 +86,7 @@ module _ (answer : List ℕ) (bytes : AllBytes answer) where
       (λ other. on_pick (ToldFits (length answer) at) (eqb format 1) _ _ (λ expanded. expanded-told-fits end at) (λ none. tt)))
 
   pub result_told :
-      (format at end : ℕ) {r : Told} → r ≡ result_at format answer at end → (r ≡ result_at format answer at end) × ToldFits (length answer) at r
+      (format at end : ℕ) {r : Option Told} → r ≡ result_at format answer at end → (r ≡ result_at format answer at end) × ToldFits (length answer) at r
   result_told format at end e = (e, rw e (told-fits format at end))
 
 -- ---- answers
@@ -105,25 +102,23 @@ data_read-fits answer bytes word least =
     (λ whole. record { first = omega arith; end = omega arith; count = λ n signed size. omega (arith, bytes 0) }))
 
 word_read-fits :
-    (answer : List ℕ) → AllBytes answer → (w : Worded) → WordedFits (length answer) 0 compact_word w
+    (answer : List ℕ) → AllBytes answer → (w : Result ℕ ℕ) → WordedFits (length answer) 0 compact_word w
     → AnsweredFits (length answer) (word_read answer w)
 unfolding WordedFits AnsweredFits word_read
-word_read-fits answer bytes (worded.Word word) fits = data_read-fits answer bytes word fits.0
-word_read-fits answer bytes (worded.Bad place) fits = fits.1
+word_read-fits answer bytes (Ok word) fits = data_read-fits answer bytes word fits.0
+word_read-fits answer bytes (Err place) fits = fits.1
 
 answered_by-fits :
-    (size : ℕ) (definite : Bool) (count first : ℕ) (t : Turn) → TurnFits size t → first ≤ t.at → count ≤ 0x7FFF
-    → AnsweredFits size (answered_by definite count first t)
-unfolding AnsweredFits answered_by
-answered_by-fits size definite count first t fits behind signed =
-    on_pick (AnsweredFits size) t.good _ _
-    (λ good.
+    (size : ℕ) (definite : Bool) (count : ℕ) (t : Turn) (r : Result Turn ℕ) → ReadFits size t r → count ≤ 0x7FFF
+    → AnsweredFits size (answered_by definite count t.at r)
+unfolding ReadFits AnsweredFits answered_by
+answered_by-fits size definite count t (Ok last) fits signed =
     record {
-      first = behind;
-      end = fits.inside;
-      count = λ n two all. on_pick (λ (k : ℕ). k ≤ n) definite _ _ (λ ab. omega arith) (λ af. omega (arith, fits.inside, fits.seen));
-    })
-    (λ bad. fits.inside)
+      first = fits.1;
+      end = fits.0.inside;
+      count = λ n two all. on_pick (λ (k : ℕ). k ≤ n) definite _ _ (λ ab. omega arith) (λ af. omega (arith, fits.0.inside, fits.0.seen));
+    }
+answered_by-fits size definite count t (Err place) fits signed = fits
 
 module _ (answer : List ℕ) (bytes : AllBytes answer) where
   -- the results, from a place in the answer on
@@ -133,8 +128,9 @@ module _ (answer : List ℕ) (bytes : AllBytes answer) where
   unfolding results_read first_turn
   results_fit definite end count first inside signed =
       let start = first_turn first (pick definite count 1) in
-      let read = turns_fit answer bytes definite end (length answer + 1) start (record { inside = inside; seen = omega arith }) in
-      answered_by-fits (length answer) definite count first _ read.0 read.1 signed
+      answered_by-fits (length answer) definite count start _
+      (turns_fit answer bytes definite end (length answer + 1) start (record { inside = inside; seen = omega arith }))
+      signed
 
   count_read-fits : (end n from : ℕ) → AnsweredFits (length answer) (count_read answer end n from)
   unfolding AnsweredFits count_read num_at
@@ -153,11 +149,11 @@ module _ (answer : List ℕ) (bytes : AllBytes answer) where
       on_pick (AnsweredFits (length answer)) (eqb (byte answer from) 0 && ltb (byte answer (from + 1)) 0x80) _ _ (λ long. omega arith)
       (λ shortest. results_fit true end (num_at answer from) (from + 2) (omega arith) (omega (arith, bytes (from + 1))))))))
 
-  count_sized-fits : (end at : ℕ) (s : Sized) → SizedFits (length answer) at s → AnsweredFits (length answer) (count_sized answer end s)
+  count_sized-fits : (end at : ℕ) (s : Result (ℕ × ℕ) ℕ) → SizedFits (length answer) at s → AnsweredFits (length answer) (count_sized answer end s)
   unfolding SizedFits AnsweredFits count_sized
-  count_sized-fits end at (sized.Size n from) fits =
+  count_sized-fits end at (Ok (n, from)) fits =
       on_pick (AnsweredFits (length answer)) (leb 1 n && leb n 2) _ _ (λ two. count_read-fits end n from) (λ other. omega arith)
-  count_sized-fits end at (sized.Bad place) fits = fits.1
+  count_sized-fits end at (Err place) fits = fits.1
 
   count_fits : (end at : ℕ) → at ≤ length answer → AnsweredFits (length answer) (count_at answer end at)
   unfolding AnsweredFits count_at
@@ -197,6 +193,6 @@ module _ (answer : List ℕ) (bytes : AllBytes answer) where
       on_pick (AnsweredFits (length answer)) (eqb format 0) _ _ (λ compact. compact-fits)
       (λ other. on_pick (AnsweredFits (length answer)) (eqb format 1) _ _ (λ expanded. expanded-fits) (λ none. omega arith))
 
-  pub answer-told :
-      (format : ℕ) {r : Answered} → r ≡ read_answer format answer → (r ≡ read_answer format answer) × AnsweredFits (length answer) r
-  answer-told format e = (e, rw e (answered-fits format))
+  pub answer_told :
+      (format : ℕ) {r : Result Summary ℕ} → r ≡ read_answer format answer → (r ≡ read_answer format answer) × AnsweredFits (length answer) r
+  answer_told format e = (e, rw e (answered-fits format))

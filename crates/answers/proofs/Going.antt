@@ -1,29 +1,26 @@
 -- The reading of results between two turns: what is left from here is the whole reading.
 -- The definition `turns_from` counts its turns down, and the code loops. `Going` says that for some count which is enough for the bytes
--- that are left, the reading from this turn on is the whole. Each turn that goes on is further on, so the count stays enough (`turns`)
--- and the bytes left are fewer (`less`); a reading that does not go on is the whole (`ends`). Assumes nothing.
-use mathlib.Core.Path.{◌≡◌, refl, sym, ap, ◌∙◌}
-use mathlib.Core.Bool.{Bool, true, false}
+-- that are left, the reading from this turn on is the whole. A turn that goes on is further on, so the count stays enough (`turns`) and the
+-- bytes left are fewer (`less`); at the end, and at a bad byte, the whole is known (`ends`, `fails`). Assumes nothing.
+use mathlib.Core.Path.{◌≡◌, refl, sym}
+use mathlib.Core.Bool.{Bool}
 use mathlib.Core.List.{List}
 use Prim.Native.Nat.{ℕ, zero, suc, ◌+◌, ◌-◌, ◌≤◌, ◌<◌}
 use native.Mathlib.Omega.{arith}
 use lib.ListN.{length}
-use Rattle.octets.specs.Choice.{pick}
-use Rattle.octets.proofs.Picks.{on_pick}
+use Rattle.octets.specs.Bytes.{AllBytes}
+use Rattle.std.specs.Prelude.{Option, Some, None, Result, Ok, Err}
 use Rattle.answers.specs.declared.turns.Turn.{Turn}
 use Rattle.answers.specs.Answers.{first_turn, turned, turns_from}
 use Rattle.answers.specs.Promised.{TurnFits, TurnedFits}
+use Rattle.answers.proofs.Places.{turned_fits}
 
 -- where the reading is, and what is left of it, with a count that is large enough
-pub record Going (answer : List ℕ) (definite : Bool) (end : ℕ) (whole t : Turn) : Type 0 where
+pub record Going (answer : List ℕ) (definite : Bool) (end : ℕ) (whole : Result Turn ℕ) (t : Turn) : Type 0 where
   pub fits : TurnFits (length answer) t
   pub fuel : ℕ
-  pub enough : t.going ≡ true → length answer + 1 ≤ t.at + fuel
+  pub enough : length answer + 1 ≤ t.at + fuel
   pub same : turns_from fuel answer definite end t ≡ whole
-
--- how many bytes a reading that goes on may still pass
-abbrev pub left : List ℕ → Turn → ℕ
-left answer t = pick t.going (length answer + 1 - t.at) 0
 
 module _ (answer : List ℕ) (definite : Bool) (end : ℕ) where
   pub begins :
@@ -31,39 +28,44 @@ module _ (answer : List ℕ) (definite : Bool) (end : ℕ) where
       → Going answer definite end (turns_from (length answer + 1) answer definite end (first_turn first count)) (first_turn first count)
   unfolding first_turn
   begins first count inside =
-      record { fits = record { inside = inside; seen = omega arith }; fuel = length answer + 1; enough = λ e. omega arith; same = refl }
+      record { fits = record { inside = inside; seen = omega arith }; fuel = length answer + 1; enough = omega arith; same = refl }
 
-  -- a reading that does not go on, and one that does
-  over : (n : ℕ) (t : Turn) → t.going ≡ false → turns_from n answer definite end t ≡ t
-  unfolding turns_from
-  over zero t off = refl
-  over (suc n) t off = rw off
+  -- the reading from a turn on, by what the turn comes to
+  abbrev rest : ℕ → Turn → Result (Option Turn) ℕ → Result Turn ℕ
+  rest n t r =
+      elim r [
+        | Ok (Some next) ↦ turns_from n answer definite end next
+        | Ok None ↦ Ok t
+        | Err place ↦ Err place
+      ]
 
-  on : (n : ℕ) (t : Turn) → t.going ≡ true → length answer + 1 ≤ t.at + n → t.at ≤ length answer
-      → (m : ℕ) × (n ≡ m + 1) × (turns_from m answer definite end (turned answer definite end t) ≡ turns_from n answer definite end t)
-  unfolding turns_from
-  on zero t going enough inside = absurd (omega arith)
-  on (suc m) t going enough inside = (m, omega arith, rw going)
+  module _ {whole : Result Turn ℕ} {t : Turn} (g : Going answer definite end whole t) where
+    -- there is a turn left
+    more : (fuel : ℕ) {r : Result (Option Turn) ℕ} → r ≡ turned answer definite end t → length answer + 1 ≤ t.at + fuel
+        → turns_from fuel answer definite end t ≡ whole → (m : ℕ) × (fuel ≡ m + 1) × (rest m t r ≡ whole)
+    unfolding turns_from
+    more zero is enough same = absurd (let h = g.fits.inside in omega arith)
+    more (suc m) is enough same = (m, omega arith, rw is same)
 
-  module _ {whole t : Turn} (g : Going answer definite end whole t) where
-    pub ends : t.going ≡ false → t ≡ whole
-    ends off = sym (over g.fuel t off) ∙ g.same
+    left : {r : Result (Option Turn) ℕ} → r ≡ turned answer definite end t → (m : ℕ) × (g.fuel ≡ m + 1) × (rest m t r ≡ whole)
+    left is = more g.fuel is g.enough g.same
 
-    module _ {next : Turn} (going : t.going ≡ true) (is : next ≡ turned answer definite end t)
-        (fits : TurnedFits (length answer) t next) where
+    module _ (bytes : AllBytes answer) {next : Turn} (is : Ok (Some next) ≡ turned answer definite end t) where
+      -- the next turn lies in the answer, further on
+      after : TurnFits (length answer) next × (t.at < next.at)
+      unfolding TurnedFits
+      after = rw (sym is) at (turned_fits answer bytes definite end t g.fits)
+
       pub turns : Going answer definite end whole next
       turns =
-          let k = on g.fuel t going (g.enough going) g.fits.inside in
-          record {
-            fits = fits.fits;
-            fuel = k.0;
-            enough = λ e. omega (arith, g.enough going, fits.further e, k.1);
-            same = ap (turns_from k.0 answer definite end) is ∙ k.2 ∙ g.same;
-          }
+          let k = left is in
+          record { fits = after.0; fuel = k.0; enough = omega (arith, g.enough, after.1, k.1); same = k.2 }
 
-      pub less : left answer next < left answer t
-      unfolding pick
-      less =
-          let here = g.fits.inside in
-          rw going
-          (on_pick (λ (k : ℕ). k < length answer + 1 - t.at) next.going _ _ (λ e. omega (arith, fits.further e)) (λ e. omega arith))
+      pub less : length answer + 1 - next.at < length answer + 1 - t.at
+      less = omega (arith, g.fits.inside, after.1)
+
+    pub ends : Ok None ≡ turned answer definite end t → Ok t ≡ whole
+    ends is = (left is).2
+
+    pub fails : {place : ℕ} → Err place ≡ turned answer definite end t → Err place ≡ whole
+    fails is = (left is).2

@@ -1,7 +1,7 @@
 -- Where a reading lies, from the definitions alone: words, lengths, results and turns, in an answer whose numbers are bytes. A reading
 -- that stops does so in the answer, and not before the place where it began. Assumes nothing.
 use mathlib.Core.Path.{◌≡◌, refl}
-use mathlib.Core.Bool.{Bool, true, false, not, ◌&&◌, ◌||◌, false≢true}
+use mathlib.Core.Bool.{Bool, true, false, not, ◌&&◌, ◌||◌}
 use mathlib.Core.List.{List}
 use mathlib.Core.Logic.{⊎_elim}
 use Prim.Native.Nat.{ℕ, zero, suc, ◌+◌, ◌-◌, ◌≤◌, ◌<◌}
@@ -9,33 +9,33 @@ use native.Mathlib.Omega.{arith}
 use lib.Dec.{leb, ltb, eqb}
 use lib.ListN.{length, get_or-eq_default}
 use borrow.Author.Tests.{leb-true, leb-false, ltb-true, ltb-false, eqb-true}
+use Rattle.std.specs.Prelude.{Option, Some, None, Result, Ok, Err}
 use Rattle.octets.specs.Choice.{pick}
 use Rattle.octets.specs.Bytes.{byte, AllBytes, num_at}
-use Rattle.octets.proofs.Picks.{pick_true, pick-false, and_right, on_pick, on_test, either}
+use Rattle.octets.proofs.Picks.{pick_true, pick-false, and_right, on_pick, either}
 use Rattle.octets.proofs.Numbers.{num_small}
 use Rattle.tlv.specs.Lengths.{wrong_length, length_missing, short_length, long_length, length_at}
 use Rattle.tlv.specs.declared.lengths.Length.{Length}
 use Rattle.tlv.specs.declared.lengths.Length.TheVariants as lengths
 use Rattle.answers.specs.declared.words.Words.{Words}
-use Rattle.answers.specs.declared.words.Worded.{Worded}
-use Rattle.answers.specs.declared.words.Worded.TheVariants as worded
-use Rattle.answers.specs.declared.results.Sized.{Sized}
-use Rattle.answers.specs.declared.results.Sized.TheVariants as sized
 use Rattle.answers.specs.declared.results.Piece.{Piece}
 use Rattle.answers.specs.declared.results.Piece.TheVariants as pieces
 use Rattle.answers.specs.declared.turns.Turn.{Turn}
 use Rattle.answers.specs.Words.{begins_word, is_word, word_at}
 use Rattle.answers.specs.Results.{form_bytes, length_stop, sized_by, sized_at}
 use Rattle.answers.specs.Results.{rapdu_ends, words_behind, rapdu_of, bad_format_of, is_tag, value_of, piece_at}
-use Rattle.answers.specs.Answers.{stopped, went_on, turned_by, definite_end, indefinite_end, turned, turns_from}
+use Rattle.answers.specs.Answers.{went_on, turned_by, definite_end, indefinite_end, turned, turns_from}
 use Rattle.answers.specs.Promised.{SizedFits, PieceFits, TurnFits, TurnedFits}
 
--- a byte that is not 0 is one of the run
+-- past the end of a run no byte stands, and one that is not 0 is one of the run
+pub no_byte : (bs : List ℕ) (at : ℕ) → length bs ≤ at → byte bs at ≡ 0
+no_byte bs at past = get_or-eq_default bs 0 {n = at} past
+
 pub there : (bs : List ℕ) (at : ℕ) → 0 < byte bs at → at < length bs
 there bs at some =
     ⊎_elim
     (λ e. ltb-true at (length bs) e)
-    (λ e. absurd (omega (arith, get_or-eq_default bs 0 {n = at} (ltb-false at (length bs) e))))
+    (λ e. absurd (omega (arith, no_byte bs at (ltb-false at (length bs) e))))
     (either (ltb at (length bs)))
 
 -- tests joined by or: the second decides, and where neither holds the first does not
@@ -50,9 +50,9 @@ or_first false b e = refl
 -- ---- words
 
 -- a word that was read at a place; or where its reading stops, not before the place `low`
-unfoldable pub WordedFits : ℕ → ℕ → ℕ → Worded → Type 0
-WordedFits size low at (worded.Word word) = (at + 2 ≤ size) × (word < 65536)
-WordedFits size low at (worded.Bad place) = (low ≤ place) × (place ≤ size)
+unfoldable pub WordedFits : ℕ → ℕ → ℕ → Result ℕ ℕ → Type 0
+WordedFits size low at (Ok word) = (at + 2 ≤ size) × (word < 65536)
+WordedFits size low at (Err place) = (low ≤ place) × (place ≤ size)
 
 module _ (answer : List ℕ) (bytes : AllBytes answer) where
   pub word_fits :
@@ -132,40 +132,40 @@ module _ (answer : List ℕ) (at : ℕ) (inside : at ≤ length answer) where
   unfolding sized_at
   sized-fits bytes definite end = sized_of definite end (length_at answer at (length answer)) (length_lies bytes)
 
-  pub sized-told :
-      AllBytes answer → (definite : Bool) (end : ℕ) {s : Sized} → s ≡ sized_at answer definite end at
+  pub sized_told :
+      AllBytes answer → (definite : Bool) (end : ℕ) {s : Result (ℕ × ℕ) ℕ} → s ≡ sized_at answer definite end at
       → (s ≡ sized_at answer definite end at) × SizedFits (length answer) at s
-  sized-told bytes definite end e = (e, rw e (sized-fits bytes definite end))
+  sized_told bytes definite end e = (e, rw e (sized-fits bytes definite end))
 
 -- ---- results
 
 -- no tag stands past the end
-pub past-bad : (answer : List ℕ) (at : ℕ) (definite : Bool) (end : ℕ) → length answer ≤ at → piece_at answer definite end at ≡ pieces.Bad at
+pub past_bad : (answer : List ℕ) (at : ℕ) (definite : Bool) (end : ℕ) → length answer ≤ at → piece_at answer definite end at ≡ Err at
 unfolding piece_at
-past-bad answer at definite end past =
-    pick_true _ _ _ (or_second (definite && leb end (at + 1)) _ (rw (get_or-eq_default answer 0 {n = at} past)))
+past_bad answer at definite end past =
+    pick_true _ _ _ (or_second (definite && leb end (at + 1)) _ (rw (no_byte answer at past)))
 
 ends_fit :
-    (size at from count : ℕ) (w : Worded) → at + 2 ≤ from → count < 65536 → WordedFits size from (from + count) w
+    (size at from count : ℕ) (w : Result ℕ ℕ) → at + 2 ≤ from → count < 65536 → WordedFits size from (from + count) w
     → PieceFits size at (rapdu_ends from count w)
 unfolding WordedFits PieceFits rapdu_ends
-ends_fit size at from count (worded.Word word) further few fits =
+ends_fit size at from count (Ok word) further few fits =
     record { further = further; inside = fits.0; small = fits.1; few = few }
-ends_fit size at from count (worded.Bad place) further few fits = (omega arith, fits.1)
+ends_fit size at from count (Err place) further few fits = (omega arith, fits.1)
 
 module _ (answer : List ℕ) (bytes : AllBytes answer) (at : ℕ) where
-  rapdu-fits : (s : Sized) → SizedFits (length answer) (at + 1) s → PieceFits (length answer) at (rapdu_of answer s)
+  rapdu-fits : (s : Result (ℕ × ℕ) ℕ) → SizedFits (length answer) (at + 1) s → PieceFits (length answer) at (rapdu_of answer s)
   unfolding SizedFits PieceFits rapdu_of
-  rapdu-fits (sized.Size n from) fits =
+  rapdu-fits (Ok (n, from)) fits =
       on_pick (PieceFits (length answer) at) (ltb n 2) _ _ (λ none. (omega arith, omega arith))
       (λ some.
       ends_fit (length answer) at from (n - 2) _ (omega arith) (omega arith)
       (word_fits answer bytes from (from + (n - 2)) (words_behind (n - 2)) (omega arith) (omega arith)))
-  rapdu-fits (sized.Bad place) fits = (omega arith, fits.1)
+  rapdu-fits (Err place) fits = (omega arith, fits.1)
 
-  bad_format-fits : (s : Sized) → SizedFits (length answer) (at + 1) s → PieceFits (length answer) at (bad_format_of answer s)
+  bad_format-fits : (s : Result (ℕ × ℕ) ℕ) → SizedFits (length answer) (at + 1) s → PieceFits (length answer) at (bad_format_of answer s)
   unfolding SizedFits PieceFits bad_format_of
-  bad_format-fits (sized.Size n from) fits =
+  bad_format-fits (Ok (n, from)) fits =
       on_pick (PieceFits (length answer) at) (not (eqb n 1)) _ _ (λ other. (omega arith, omega arith))
       (λ one.
       on_pick (PieceFits (length answer) at) (leb (length answer) from) _ _ (λ none. (omega arith, omega arith))
@@ -174,7 +174,7 @@ module _ (answer : List ℕ) (bytes : AllBytes answer) (at : ℕ) where
       on_pick (PieceFits (length answer) at) (leb 1 (byte answer from) && leb (byte answer from) 3) _ _
       (λ code. (omega arith, h, leb-true (byte answer from) 3 (and_right (leb 1 (byte answer from)) (leb (byte answer from) 3) code)))
       (λ other. (omega arith, omega arith))))
-  bad_format-fits (sized.Bad place) fits = (omega arith, fits.1)
+  bad_format-fits (Err place) fits = (omega arith, fits.1)
 
   pub piece_fits : (definite : Bool) (end : ℕ) → at < length answer → PieceFits (length answer) at (piece_at answer definite end at)
   unfolding PieceFits piece_at value_of
@@ -186,76 +186,85 @@ module _ (answer : List ℕ) (bytes : AllBytes answer) (at : ℕ) where
       (λ rapdu. rapdu-fits _ fits)
       (λ bad. bad_format-fits _ fits))
 
-  pub piece_told_lem :
-      (definite : Bool) (end : ℕ) → at < length answer → {p : Piece} → p ≡ piece_at answer definite end at
+  pub piece_there :
+      (definite : Bool) (end : ℕ) → at < length answer → {p : Result Piece ℕ} → p ≡ piece_at answer definite end at
       → (p ≡ piece_at answer definite end at) × PieceFits (length answer) at p
-  piece_told_lem definite end inside e = (e, rw e (piece_fits definite end inside))
+  piece_there definite end inside e = (e, rw e (piece_fits definite end inside))
 
 -- ---- turns
 
 module _ (size : ℕ) (t : Turn) (fits : TurnFits size t) where
-  stopped-fits : (good : Bool) (place : ℕ) → t.at ≤ place → place ≤ size → TurnedFits size t (stopped good t place)
-  unfolding stopped
-  stopped-fits good place behind inside =
-      record { fits = record { inside = inside; seen = omega (arith, fits.seen) }; behind = behind; further = λ e. absurd (false≢true e) }
+  went_on-fits : (place left : ℕ) → t.at < place → place ≤ size → TurnedFits size t (Ok (Some (went_on t place left)))
+  unfolding TurnedFits went_on
+  went_on-fits place left further inside = (record { inside = inside; seen = omega (arith, fits.seen) }, further)
 
-  went_on-fits : (place left : ℕ) → t.at < place → place ≤ size → TurnedFits size t (went_on t place left)
-  unfolding went_on
-  went_on-fits place left further inside =
-      record { fits = record { inside = inside; seen = omega (arith, fits.seen) }; behind = omega arith; further = λ e. further }
+  turned_by-fits : (definite : Bool) (piece : Result Piece ℕ) → PieceFits size t.at piece → TurnedFits size t (turned_by definite t piece)
+  unfolding PieceFits TurnedFits turned_by
+  turned_by-fits definite (Ok (pieces.Result word from count)) p = went_on-fits (from + count + 2) _ (omega (arith, p.further)) p.inside
+  turned_by-fits definite (Ok (pieces.BadFormat code place)) p = went_on-fits (place + 1) 0 (omega arith) (omega arith)
+  turned_by-fits definite (Err place) p = p
 
-  turned_by-fits : (definite : Bool) (piece : Piece) → PieceFits size t.at piece → TurnedFits size t (turned_by definite t piece)
-  unfolding PieceFits turned_by
-  turned_by-fits definite (pieces.Result word from count) p = went_on-fits (from + count + 2) _ (omega (arith, p.further)) p.inside
-  turned_by-fits definite (pieces.BadFormat code place) p = went_on-fits (place + 1) 0 (omega arith) (omega arith)
-  turned_by-fits definite (pieces.Bad place) p = stopped-fits false place p.0 p.1
+-- the turn at the end of a reading from a turn on, or the place of a bad byte
+unfoldable pub ReadFits : ℕ → Turn → Result Turn ℕ → Type 0
+ReadFits size t (Ok last) = TurnFits size last × (t.at ≤ last.at)
+ReadFits size t (Err place) = place ≤ size
+
+further : (size : ℕ) (t next : Turn) (r : Result Turn ℕ) → t.at ≤ next.at → ReadFits size next r → ReadFits size t r
+unfolding ReadFits
+further size t next (Ok last) h fits = (fits.0, omega (arith, fits.1))
+further size t next (Err place) h fits = fits
 
 module _ (answer : List ℕ) (bytes : AllBytes answer) (definite : Bool) (end : ℕ) where
   module _ (t : Turn) (fits : TurnFits (length answer) t) where
     -- 00 in a tag's place
     indefinite_end-fits : t.at < length answer → TurnedFits (length answer) t (indefinite_end answer t)
-    unfolding indefinite_end
+    unfolding TurnedFits indefinite_end
     indefinite_end-fits inside =
         on_pick (TurnedFits (length answer) t) (ltb (t.at + 1) (length answer) && eqb (byte answer (t.at + 1)) 0) _ _
         (λ both.
         on_pick (TurnedFits (length answer) t) (ltb (t.at + 2) (length answer)) _ _
-        (λ more.
-        let h = ltb-true (t.at + 2) (length answer) more in
-        stopped-fits (length answer) t fits false (t.at + 2) (omega arith) (omega arith))
-        (λ none. stopped-fits (length answer) t fits true t.at (omega arith) (omega arith)))
-        (λ other. stopped-fits (length answer) t fits false (t.at + 1) (omega arith) (omega arith))
+        (λ more. let h = ltb-true (t.at + 2) (length answer) more in (omega arith, omega arith))
+        (λ none. tt))
+        (λ other. (omega arith, omega arith))
 
-    pub turned-fits : TurnedFits (length answer) t (turned answer definite end t)
-    unfolding turned definite_end
-    turned-fits =
+    pub turned_fits : TurnedFits (length answer) t (turned answer definite end t)
+    unfolding TurnedFits turned definite_end
+    turned_fits =
         let here = fits.inside in
         on_pick (TurnedFits (length answer) t) (definite && eqb t.at end) _ _
         (λ ends.
         let e = eqb-true t.at end (and_right definite (eqb t.at end) ends) in
-        stopped-fits (length answer) t fits _ end (omega arith) (omega arith))
+        on_pick (TurnedFits (length answer) t) ((eqb t.seen 0 && ltb 0 t.left) || ltb end (length answer)) _ _
+        (λ bad. (omega arith, omega arith))
+        (λ good. tt))
         (λ on. on_pick (TurnedFits (length answer) t) (leb (length answer) t.at) _ _
-        (λ past. stopped-fits (length answer) t fits false (length answer) here (omega arith))
+        (λ past. (here, omega arith))
         (λ more.
         let inside = leb-false (length answer) t.at more in
         on_pick (TurnedFits (length answer) t) (not definite && eqb (byte answer t.at) 0) _ _
         (λ zeros. indefinite_end-fits inside)
         (λ tag. on_pick (TurnedFits (length answer) t) (eqb t.left 0) _ _
-        (λ none. stopped-fits (length answer) t fits false t.at (omega arith) here)
+        (λ none. (omega arith, here))
         (λ some. turned_by-fits (length answer) t fits definite _ (piece_fits answer bytes t.at definite end inside)))))
 
-    pub turned-told : {r : Turn} → r ≡ turned answer definite end t → (r ≡ turned answer definite end t) × TurnedFits (length answer) t r
-    turned-told e = (e, rw e turned-fits)
+    pub turned_told :
+        {r : Result (Option Turn) ℕ} → r ≡ turned answer definite end t
+        → (r ≡ turned answer definite end t) × TurnedFits (length answer) t r
+    turned_told e = (e, rw e turned_fits)
 
-  -- the reading from a turn on: its place lies in the answer, and not before the turn's
-  pub turns_fit :
-      (n : ℕ) (t : Turn) → TurnFits (length answer) t
-      → TurnFits (length answer) (turns_from n answer definite end t) × (t.at ≤ (turns_from n answer definite end t).at)
-  unfolding turns_from
-  turns_fit zero t fits = (fits, omega arith)
-  turns_fit (suc n) t fits =
-      on_test (λ (r : Turn). TurnFits (length answer) r × (t.at ≤ r.at)) t.going _ _
-      (λ on.
-      let after = turned-fits t fits in
-      let rest = turns_fit n (turned answer definite end t) after.fits in
-      (rest.0, omega (arith, after.behind, rest.1)))
-      (λ off. (fits, omega arith))
+  -- the reading from a turn on: its places lie in the answer, and not before the turn's
+  pub turns_fit : (n : ℕ) (t : Turn) → TurnFits (length answer) t → ReadFits (length answer) t (turns_from n answer definite end t)
+  unfolding ReadFits TurnedFits turns_from
+  turns_fit zero t fits = fits.inside
+  turns_fit (suc n) t fits = go (turned answer definite end t) (turned_fits t fits) (λ next fits. turns_fit n next fits)
+    where
+      go : (r : Result (Option Turn) ℕ) → TurnedFits (length answer) t r
+          → ((next : Turn) → TurnFits (length answer) next → ReadFits (length answer) next (turns_from n answer definite end next))
+          → ReadFits (length answer) t (elim r [
+            | Ok (Some next) ↦ turns_from n answer definite end next
+            | Ok None ↦ Ok t
+            | Err place ↦ Err place
+          ])
+      go (Ok (Some next)) after others = further (length answer) t next _ (omega (arith, after.1)) (others next after.0)
+      go (Ok None) after others = (fits, omega arith)
+      go (Err place) after others = after.1

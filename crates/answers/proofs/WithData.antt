@@ -9,11 +9,11 @@ use native.Mathlib.Omega.{arith}
 use lib.Dec.{eqb}
 use lib.ListN.{length}
 use borrow.Author.Tests.{eqb-true}
+use Rattle.std.specs.Prelude.{Ok}
 use Rattle.octets.specs.Bytes.{byte, AllBytes, num_at}
 use Rattle.octets.proofs.Picks.{yes, no, le_no, or_either}
 use Rattle.answers.specs.declared.words.Words.{Words}
 use Rattle.answers.specs.declared.words.Words.TheVariants.{Compact, Expanded, WithData}
-use Rattle.answers.specs.declared.words.Worded.TheVariants.{Word}
 use Rattle.answers.specs.Words.{has_data, is_common, is_word, begins_common, begins_word, word_at}
 
 each_has : (words : Words) (word : ℕ) → has_data word ≡ true → is_word words word ≡ true
@@ -53,7 +53,7 @@ module _ (words : Words) (answer : List ℕ) (bytes : AllBytes answer) (at : ℕ
       Begins : ℕ → Type 0
       Begins b = begins_word words b ≡ true
 
-  pub data_word : at + 1 < length answer → Word (num_at answer at) ≡ word_at words answer at
+  pub data_word : at + 1 < length answer → Ok (num_at answer at) ≡ word_at words answer at
   unfolding word_at
   data_word inside =
       le_no (length answer) at _ (omega arith)

@@ -1,7 +1,7 @@
 -- The results of an answer, one after the other.
-use Rattle.std.specs.Prelude.{ℕ, zero, suc, ◌+◌, List, [], ◌∷◌}
+use Rattle.std.specs.Prelude.{ℕ, zero, suc, ◌+◌, List, [], ◌∷◌, Some, None}
 use Rattle.octets.specs.Bytes.{part}
-use Rattle.answers.specs.declared.results.Told.TheVariants.{Result, BadFormat, End}
+use Rattle.answers.specs.declared.results.Told.TheVariants.{Result, BadFormat}
 use Rattle.answers.specs.Results.{result_at}
 
 -- a result: a word with its data, or the code of a Bad format TLV
@@ -14,7 +14,7 @@ unfoldable pub told_from : ℕ → ℕ → List ℕ → ℕ → ℕ → List Rep
 told_from zero format answer at end = []
 told_from (suc n) format answer at end =
     elim (result_at format answer at end) [
-      | Result word from count ↦ replied word (part answer from count) ∷ told_from n format answer (from + count + 2) end
-      | BadFormat code ↦ bad_format code ∷ []
-      | End ↦ []
+      | Some (Result word from count) ↦ replied word (part answer from count) ∷ told_from n format answer (from + count + 2) end
+      | Some (BadFormat code) ↦ bad_format code ∷ []
+      | None ↦ []
     ]

@@ -1,11 +1,9 @@
 -- The words that the engine can give, and a word that is read byte by byte.
-use Rattle.std.specs.Prelude.{ℕ, ◌+◌, Bool, not, ◌&&◌, ◌||◌, List, length, leb, eqb}
+use Rattle.std.specs.Prelude.{ℕ, ◌+◌, Bool, not, ◌&&◌, ◌||◌, List, length, leb, eqb, Result, Ok, Err}
 use Rattle.octets.specs.Choice.{pick}
 use Rattle.octets.specs.Bytes.{byte, num_at}
 use Rattle.answers.specs.declared.words.Words.{Words}
 use Rattle.answers.specs.declared.words.Words.TheVariants.{Compact, Expanded, WithData}
-use Rattle.answers.specs.declared.words.Worded.{Worded}
-use Rattle.answers.specs.declared.words.Worded.TheVariants.{Word, Bad}
 
 -- the words behind data
 abbrev pub has_data : ℕ → Bool
@@ -48,12 +46,12 @@ begins_word Expanded b = begins_common b || eqb b 0x6F
 begins_word WithData b = eqb b 0x90 || eqb b 0x62
 
 -- the word at a place, or where reading it stops: a byte is missing, or no word goes on so
-unfoldable pub word_at : Words → List ℕ → ℕ → Worded
+unfoldable pub word_at : Words → List ℕ → ℕ → Result ℕ ℕ
 word_at words answer at =
     pick (leb (length answer) at)
-    (Bad (length answer))
+    (Err (length answer))
     (pick (not (begins_word words (byte answer at)))
-    (Bad at)
+    (Err at)
     (pick (leb (length answer) (at + 1))
-    (Bad (length answer))
-    (pick (is_word words (num_at answer at)) (Word (num_at answer at)) (Bad (at + 1)))))
+    (Err (length answer))
+    (pick (is_word words (num_at answer at)) (Ok (num_at answer at)) (Err (at + 1)))))

@@ -1,10 +1,9 @@
 // One result of an answer: an R-APDU or a Bad format TLV.
 ghost use Rattle.std.specs.Prelude.{◌≡◌, true, ◌≤◌, ◌<◌, length};
-ghost use Rattle.answers.specs.declared.results.Sized.TheVariants as sized;
 ghost use Rattle.answers.specs.Results as spec;
-ghost use Rattle.answers.specs.Promised.{SizedFits, PieceFits, ToldFits};
+ghost use Rattle.answers.specs.Promised.{SizedFits, ToldFits};
 
-use crate::words::{Worded, Words, has_data, word_at};
+use crate::words::{Words, has_data, word_at};
 use tlv::lengths::{LENGTH_MISSING, Length, code_of, length_at};
 
 // Where the one word of a compact answer stands, and where its data begin.
@@ -15,31 +14,23 @@ pub const COMPACT_DATA: usize = 3;
 // The most data of a compact answer.
 pub const MOST_DATA: usize = 256;
 
-// A length and the place behind it; or the place where its reading stops.
-#[derive(Clone, Copy)]
-pub enum Sized {
-    Size(usize, usize),
-    Bad(usize),
-}
-
-// What stands at a place: an R-APDU (its word, where its data begin and how many there are), a Bad format TLV (its code and where that
-// stands), or the place of a bad byte.
+// What stands at a place: an R-APDU (its word, where its data begin and how many there are), or a Bad format TLV (its code and where that
+// stands).
 #[derive(Clone, Copy)]
 pub enum Piece {
     Result(usize, usize, usize),
     BadFormat(usize, usize),
-    Bad(usize),
 }
 
-// A result on its own: its word, where its data begin and how many there are; the code of a Bad format TLV; or no more.
+// A result on its own: its word, where its data begin and how many there are; or the code of a Bad format TLV.
 #[derive(Clone, Copy)]
 pub enum Told {
     Result(usize, usize, usize),
     BadFormat(usize),
-    End,
 }
 
 // Returns the place where the reading of a length at `at` stops that ends in a code.
+#[tactic(auto, using(octets::proofs::Picks::choices, crate::proofs::Places::no_byte), unfolding(crate::specs::Results::length_stop, crate::specs::Results::form_bytes))]
 pub(crate) fn length_stop(answer: &[u8], at: usize, code: usize) -> usize
     requires { at ≤ length answer.now }
     ensures { result ≡ spec.length_stop answer.now at code }
@@ -62,21 +53,28 @@ pub(crate) fn length_stop(answer: &[u8], at: usize, code: usize) -> usize
 
 // Returns the length that stands at the place `at`, and where its value begins; in AB the value does not pass `end`. Or the place where
 // the reading stops.
-pub(crate) fn sized_at(answer: &[u8], definite: bool, end: usize, at: usize) -> Sized
+#[tactic(auto, using(octets::proofs::Picks::choices), unfolding(crate::specs::Results::sized_at, crate::specs::Results::sized_by, tlv::specs::Promised::LengthFits, crate::specs::Promised::SizedFits))]
+pub(crate) fn sized_at(
+    answer: &[u8],
+    definite: bool,
+    end: usize,
+    at: usize,
+) -> Result<(usize, usize), usize>
     requires { at ≤ length answer.now }
     ensures { (result ≡ spec.sized_at answer.now definite end at) × SizedFits (length answer.now) at result }
 {
     let l = length_at(answer, at, answer.len());
     let Length::Found(n, from) = l else {
-        return Sized::Bad(length_stop(answer, at, code_of(l)));
+        return Err(length_stop(answer, at, code_of(l)));
     };
     if !definite | (from + n <= end) {
-        return Sized::Size(n, from);
+        return Ok((n, from));
     }
-    Sized::Bad(from - 1)
+    Err(from - 1)
 }
 
 // Returns the words that an R-APDU of so many data bytes can end with.
+#[tactic(auto, using(octets::proofs::Picks::choices), unfolding(crate::specs::Results::words_behind))]
 fn words_behind(count: usize) -> Words
     ensures { result ≡ spec.words_behind count }
 {
@@ -87,43 +85,43 @@ fn words_behind(count: usize) -> Words
 }
 
 // Returns the R-APDU whose data and word are the n bytes from the place `from` on.
-fn rapdu_of(answer: &[u8], n: usize, from: usize) -> Piece
+#[tactic(auto, using(octets::proofs::Picks::choices), unfolding(crate::specs::Results::rapdu_of, crate::specs::Results::rapdu_ends))]
+fn rapdu_of(answer: &[u8], n: usize, from: usize) -> Result<Piece, usize>
     requires { (1 ≤ from) × (from ≤ length answer.now) × (n < 65536) }
-    ensures { result ≡ spec.rapdu_of answer.now (sized.Size n from) }
+    ensures { result ≡ spec.rapdu_of answer.now (Ok (n, from)) }
 {
     if n < 2 {
-        return Piece::Bad(from - 1);
+        return Err(from - 1);
     }
     let count = n - 2;
-    let worded = word_at(words_behind(count), answer, from + count);
-    match worded {
-        Worded::Word(word) => Piece::Result(word, from, count),
-        Worded::Bad(place) => Piece::Bad(place),
-    }
+    let word = word_at(words_behind(count), answer, from + count)?;
+    Ok(Piece::Result(word, from, count))
 }
 
 // Returns the Bad format TLV whose value is the n bytes from the place `from` on.
-fn bad_format_of(answer: &[u8], n: usize, from: usize) -> Piece
+#[tactic(auto, using(octets::proofs::Picks::choices), unfolding(crate::specs::Results::bad_format_of))]
+fn bad_format_of(answer: &[u8], n: usize, from: usize) -> Result<Piece, usize>
     requires { 1 ≤ from }
-    ensures { result ≡ spec.bad_format_of answer.now (sized.Size n from) }
+    ensures { result ≡ spec.bad_format_of answer.now (Ok (n, from)) }
 {
     if n != 1 {
-        return Piece::Bad(from - 1);
+        return Err(from - 1);
     }
     if answer.len() <= from {
-        return Piece::Bad(answer.len());
+        return Err(answer.len());
     }
     let code = octets::wide(answer[from]);
     if (1 <= code) & (code <= 3) {
-        return Piece::BadFormat(code, from);
+        return Ok(Piece::BadFormat(code, from));
     }
-    Piece::Bad(from)
+    Err(from)
 }
 
 // Returns what a tag, 23 or 90, begins whose value is the n bytes from the place `from` on.
-fn value_of(answer: &[u8], tag: usize, n: usize, from: usize) -> Piece
+#[tactic(auto, using(octets::proofs::Picks::choices), unfolding(crate::specs::Results::value_of))]
+fn value_of(answer: &[u8], tag: usize, n: usize, from: usize) -> Result<Piece, usize>
     requires { (1 ≤ from) × (from ≤ length answer.now) × (n < 65536) }
-    ensures { result ≡ spec.value_of answer.now tag (sized.Size n from) }
+    ensures { result ≡ spec.value_of answer.now tag (Ok (n, from)) }
 {
     if tag == 0x23 {
         return rapdu_of(answer, n, from);
@@ -132,22 +130,21 @@ fn value_of(answer: &[u8], tag: usize, n: usize, from: usize) -> Piece
 }
 
 // Returns what stands at the place `at` of an answer: in AB it is more than the last byte before `end`.
-pub(crate) fn piece_at(answer: &[u8], definite: bool, end: usize, at: usize) -> Piece
+#[tactic(auto, using(octets::proofs::Picks::choices), unfolding(crate::specs::Results::piece_at, crate::specs::Results::value_of, crate::specs::Results::rapdu_of, crate::specs::Results::bad_format_of, crate::specs::Promised::SizedFits))]
+pub(crate) fn piece_at(answer: &[u8], definite: bool, end: usize, at: usize) -> Result<Piece, usize>
     requires { at < length answer.now }
-    ensures { (result ≡ spec.piece_at answer.now definite end at) × PieceFits (length answer.now) at result }
+    ensures { result ≡ spec.piece_at answer.now definite end at }
 {
     let tag = octets::wide(answer[at]);
     if (definite & (end <= at + 1)) | !((tag == 0x23) | (tag == 0x90)) {
-        return Piece::Bad(at);
+        return Err(at);
     }
-    let sized = sized_at(answer, definite, end, at + 1);
-    match sized {
-        Sized::Size(n, from) => value_of(answer, tag, n, from),
-        Sized::Bad(place) => Piece::Bad(place),
-    }
+    let (n, from) = sized_at(answer, definite, end, at + 1)?;
+    value_of(answer, tag, n, from)
 }
 
 // Returns whether `count` data bytes can stand behind a word of a compact answer.
+#[tactic(auto, unfolding(crate::specs::Results::data_fit, plan::specs::Plans::most_read))]
 fn data_fit(word: usize, count: usize) -> bool
     ensures { result ≡ spec.data_fit word count }
 {
@@ -155,46 +152,45 @@ fn data_fit(word: usize, count: usize) -> bool
 }
 
 // Returns the one result of a compact answer that ends at `end`, where its word stands at the place `at`.
-fn compact_at(answer: &[u8], at: usize, end: usize) -> Told
+#[tactic(auto, using(octets::proofs::Picks::choices), unfolding(crate::specs::Results::compact_at, crate::specs::Results::compact_told))]
+fn compact_at(answer: &[u8], at: usize, end: usize) -> Option<Told>
     ensures { result ≡ spec.compact_at answer.now at end }
 {
     if at != COMPACT_WORD {
-        return Told::End;
+        return None;
     }
-    let Worded::Word(word) = word_at(Words::Compact, answer, COMPACT_WORD) else {
-        return Told::End;
-    };
+    let word = word_at(Words::Compact, answer, COMPACT_WORD).ok()?;
     if end < COMPACT_DATA {
-        return Told::End;
+        return None;
     }
     let count = end - COMPACT_DATA;
     if data_fit(word, count) {
-        return Told::Result(word, COMPACT_DATA, count);
+        return Some(Told::Result(word, COMPACT_DATA, count));
     }
-    Told::End
+    None
 }
 
 // Returns the result of an expanded answer that stands at the place `at`, before `end`.
-fn expanded_at(answer: &[u8], at: usize, end: usize) -> Told
+#[tactic(auto, using(crate::proofs::Places::past_bad), unfolding(crate::specs::Results::piece_told))]
+fn expanded_at(answer: &[u8], at: usize, end: usize) -> Option<Told>
     ensures { result ≡ spec.piece_told (spec.piece_at answer.now true end at) }
 {
     if answer.len() <= at {
-        return Told::End;
+        return None;
     }
-    let piece = piece_at(answer, true, end, at);
-    match piece {
-        Piece::Result(word, from, count) => Told::Result(word, from, count),
-        Piece::BadFormat(code, _) => Told::BadFormat(code),
-        Piece::Bad(_) => Told::End,
+    match piece_at(answer, true, end, at) {
+        Ok(Piece::Result(word, from, count)) => Some(Told::Result(word, from, count)),
+        Ok(Piece::BadFormat(code, _)) => Some(Told::BadFormat(code)),
+        Err(_) => None,
     }
 }
 
 // Returns the whole result that stands at the place `at` of an answer of a format whose results end at `end`; no more where none does.
-pub fn result_at(format: u8, answer: &[u8], at: usize, end: usize) -> Told
+pub fn result_at(format: u8, answer: &[u8], at: usize, end: usize) -> Option<Told>
     ensures { (result ≡ spec.result_at format answer.now at end) × ToldFits (length answer.now) at result }
 {
     if answer.len() < end {
-        return Told::End;
+        return None;
     }
     if format == 0 {
         return compact_at(answer, at, end);
@@ -202,5 +198,5 @@ pub fn result_at(format: u8, answer: &[u8], at: usize, end: usize) -> Told
     if format == 1 {
         return expanded_at(answer, at, end);
     }
-    Told::End
+    None
 }

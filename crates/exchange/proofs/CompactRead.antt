@@ -12,6 +12,7 @@ use lib.Dec.{leb, ltb, eqb}
 use lib.ListN.{length}
 use lib.Seq.{take-length}
 use borrow.Author.Tests.{ltb-true, ltb-false, le-leb, eqb-false}
+use Rattle.std.specs.Prelude.{Some, None, Ok}
 use Rattle.octets.specs.Bytes.{AllBytes, part, num_at, bytes2}
 use Rattle.octets.proofs.Picks.{yes, no, lt_no, le_no, eq_yes, eq_no, on_test, and_both}
 use Rattle.card.specs.Row.{Card}
@@ -33,9 +34,7 @@ use Rattle.compact.proofs.Fits.{outcome-inside}
 use Rattle.demands.specs.Commands.{after, Read, commands_from, commands_of, command_done, word_goes_on, states_after}
 use Rattle.demands.proofs.Commands.{compact-runs}
 use Rattle.answers.specs.declared.words.Words.TheVariants as words
-use Rattle.answers.specs.declared.words.Worded.TheVariants as worded
-use Rattle.answers.specs.declared.results.Told.TheVariants.{Result, End}
-use Rattle.answers.specs.declared.Answered.TheVariants as answered
+use Rattle.answers.specs.declared.results.Told.TheVariants.{Result}
 use Rattle.answers.specs.Words.{has_data, is_word, begins_word, word_at}
 use Rattle.answers.specs.Results.{data_fit, compact_told, compact_at, result_at}
 use Rattle.answers.specs.Answers.{data_read, word_read, compact_read, read_answer}
@@ -46,12 +45,12 @@ use Rattle.exchange.proofs.GoodWords.{words_of, Known, says_known, says_data}
 
 -- the reader's results one by one: one more, and none
 module _ (n format : ℕ) (answer : List ℕ) (at end : ℕ) where
-  told_result : (word from count : ℕ) → result_at format answer at end ≡ Result word from count
+  told_result : (word from count : ℕ) → result_at format answer at end ≡ Some (Result word from count)
       → told_from (suc n) format answer at end ≡ replied word (part answer from count) ∷ told_from n format answer (from + count + 2) end
   unfolding told_from
   told_result word from count e = rw (told_from, e)
 
-  told-end : result_at format answer at end ≡ End → told_from (suc n) format answer at end ≡ []
+  told-end : result_at format answer at end ≡ None → told_from (suc n) format answer at end ≡ []
   unfolding told_from
   told-end e = rw (told_from, e)
 
@@ -59,7 +58,7 @@ module _ (count word : ℕ) (d : List ℕ) (some : 1 ≤ count) (known : Known C
   abbrev answer : List ℕ
   answer = count ∷ (word / 256 % 256) ∷ (word % 256) ∷ d
 
-  word_at_lem : word_at words.Compact answer 1 ≡ worded.Word word
+  word_at_lem : word_at words.Compact answer 1 ≡ Ok word
   unfolding word_at words_of num_at
   word_at_lem =
       let small = known.small in
@@ -68,19 +67,19 @@ module _ (count word : ℕ) (d : List ℕ) (some : 1 ≤ count) (known : Known C
       (le_no (length answer) 1 _ (omega arith)
       (no (not (begins_word words.Compact (word / 256 % 256))) _ (rw known.begins)
       (le_no (length answer) 2 _ (omega arith)
-      (yes (is_word words.Compact ((word / 256 % 256) * 256 + word % 256)) _ (rw e known.word) (ap worded.Word (sym e))))))
+      (yes (is_word words.Compact ((word / 256 % 256) * 256 + word % 256)) _ (rw e known.word) (ap Ok (sym e))))))
 
   not_bare : (b : Bool) → ltb 3 (length answer) ≡ b → (b && not (has_data word)) ≡ false
   not_bare true e = rw (behind (let l = ltb-true 3 (length answer) e in omega arith))
   not_bare false e = refl
 
-  summary : read_answer 0 answer ≡ answered.Read (record { count = count; first = 1; end = length answer })
+  summary : read_answer 0 answer ≡ Ok (record { count = count; first = 1; end = length answer })
   unfolding read_answer compact_read word_read data_read most_read
   summary =
       sym
       (eq_yes 0 0 _ refl
       (eq_no count 0 _ (λ z. omega arith)
-      (subst (λ w. answered.Read (record { count = count; first = 1; end = length answer }) ≡ word_read answer w) (sym word_at_lem)
+      (subst (λ w. Ok (record { count = count; first = 1; end = length answer }) ≡ word_read answer w) (sym word_at_lem)
       (no (ltb 3 (length answer) && not (has_data word)) _ (not_bare (ltb 3 (length answer)) refl)
       (lt_no 259 (length answer) _ (omega arith) refl)))))
 
@@ -89,18 +88,18 @@ module _ (count word : ℕ) (d : List ℕ) (some : 1 ≤ count) (known : Known C
   fits true e = refl
   fits false e = and_both _ _ (behind (omega (arith, eqb-false (length d) 0 e))) (le-leb (length d) 256 few)
 
-  the_result : result_at 0 answer 1 (length answer) ≡ Result word 3 (length d)
+  the_result : result_at 0 answer 1 (length answer) ≡ Some (Result word 3 (length d))
   unfolding result_at compact_at compact_told data_fit most_read
   the_result =
       sym
       (lt_no (length answer) (length answer) _ (omega arith)
       (eq_yes 0 0 _ refl
       (eq_yes 1 1 _ refl
-      (subst (λ w. Result word 3 (length d) ≡ compact_told (length answer) w) (sym word_at_lem)
+      (subst (λ w. Some (Result word 3 (length d)) ≡ compact_told (length answer) w) (sym word_at_lem)
       (let e : length answer - 3 ≡ length d = omega arith in
       yes (leb 3 (length answer) && data_fit word (length answer - 3)) _ (and_both _ _ (le-leb 3 (length answer) (omega arith)) (rw e (fits (eqb (length d) 0) refl))) (rw e))))))
 
-  nothing_more : (at : ℕ) → 2 ≤ at → result_at 0 answer at (length answer) ≡ End
+  nothing_more : (at : ℕ) → 2 ≤ at → result_at 0 answer at (length answer) ≡ None
   unfolding result_at compact_at
   nothing_more at more =
       sym (lt_no (length answer) (length answer) _ (omega arith) (eq_yes 0 0 _ refl (eq_no at 1 _ (λ e. omega arith) refl)))

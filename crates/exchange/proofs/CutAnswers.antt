@@ -7,16 +7,14 @@ use Prim.Native.Nat.{ℕ, ◌+◌, ◌-◌, ◌≤◌, ◌<◌}
 use native.Mathlib.Omega.{arith}
 use lib.Dec.{leb, ltb, eqb}
 use lib.ListN.{length, get_or-eq_default}
+use Rattle.std.specs.Prelude.{Result, Ok, Err}
 use Rattle.octets.specs.Choice.{pick}
 use Rattle.octets.specs.Bytes.{byte, num_at}
 use Rattle.octets.proofs.Picks.{on_pick, pick_true, pick-false}
 use Rattle.tlv.specs.declared.lengths.Length.{Length}
 use Rattle.tlv.specs.declared.lengths.Length.TheVariants as lengths
 use Rattle.tlv.specs.Lengths.{length_at}
-use Rattle.answers.specs.declared.results.Sized.{Sized}
-use Rattle.answers.specs.declared.results.Sized.TheVariants as sized
-use Rattle.answers.specs.declared.Answered.{Answered}
-use Rattle.answers.specs.declared.Answered.TheVariants.{Read, Bad}
+use Rattle.answers.specs.declared.Summary.{Summary}
 use Rattle.answers.specs.Results.{sized_by, sized_at}
 use Rattle.answers.specs.Answers.{results_read, count_read, count_sized, count_at, definite_by, definite_read, indefinite_read, expanded_read}
 use Rattle.exchange.proofs.Cut.{Begins, num_begins, by_place, Kind, Cut, missing, refused, alike, needed_later, needed, follows}
@@ -24,9 +22,9 @@ use Rattle.exchange.proofs.CutLengths.{SizedBefore, SizedLater, sized_kind, size
 use Rattle.exchange.proofs.CutTurns.{AnsweredLater, answered_kind, results-later, results_cut}
 
 -- AB from its length, which has no end to pass
-unfoldable definite_sized : List ℕ → Sized → Answered
-definite_sized a (sized.Size n from) = pick (eqb n 0) (Bad (from - 1)) (count_at a (from + n) from)
-definite_sized a (sized.Bad place) = Bad place
+unfoldable definite_sized : List ℕ → Result (ℕ × ℕ) ℕ → Result Summary ℕ
+definite_sized a (Ok (n, from)) = pick (eqb n 0) (Err (from - 1)) (count_at a (from + n) from)
+definite_sized a (Err place) = Err place
 
 definite_by_lem : (a : List ℕ) (l : Length) → definite_by a l ≡ definite_sized a (sized_by a false 0 1 l)
 unfolding definite_by definite_sized sized_by pick
@@ -42,7 +40,7 @@ definite-is a = definite_by_lem a (length_at a 1 (length a))
 module _ (a : List ℕ) (k : ℕ) (inside : k ≤ length a) where
   -- a count from its second byte, and from its first
   number-later : (end from : ℕ) → k ≤ from + 1
-      → AnsweredLater k (pick (eqb (byte a from) 0 && ltb (byte a (from + 1)) 0x80) (Bad (from + 1)) (results_read a true end (num_at a from) (from + 2)))
+      → AnsweredLater k (pick (eqb (byte a from) 0 && ltb (byte a (from + 1)) 0x80) (Err (from + 1)) (results_read a true end (num_at a from) (from + 2)))
   number-later end from h =
       on_pick (AnsweredLater k) (eqb (byte a from) 0 && ltb (byte a (from + 1)) 0x80) _ _ (λ _. h)
       (λ _. results-later true end (num_at a from) (from + 2) a k inside (omega arith))
@@ -55,11 +53,11 @@ module _ (a : List ℕ) (k : ℕ) (inside : k ≤ length a) where
       (λ _. on_pick (AnsweredLater k) (eqb n 1) _ _ (λ _. results-later true end (byte a from) (from + 1) a k inside (omega arith))
       (λ _. needed_later (answered_kind (length a)) k (length a) inside (from + 1) (number-later end from (omega arith)))))
 
-  count-later : (end : ℕ) (s : Sized) → SizedLater k s → AnsweredLater k (count_sized a end s)
+  count-later : (end : ℕ) (s : Result (ℕ × ℕ) ℕ) → SizedLater k s → AnsweredLater k (count_sized a end s)
   unfolding count_sized
-  count-later end (sized.Size n from) h =
+  count-later end (Ok (n, from)) h =
       on_pick (AnsweredLater k) (leb 1 n && leb n 2) _ _ (λ _. read-later end n from (omega arith)) (λ _. omega arith)
-  count-later end (sized.Bad place) h = h
+  count-later end (Err place) h = h
 
   at_later : (end at : ℕ) → k ≤ at → AnsweredLater k (count_at a end at)
   unfolding count_at
@@ -67,11 +65,11 @@ module _ (a : List ℕ) (k : ℕ) (inside : k ≤ length a) where
       on_pick (AnsweredLater k) (not (eqb (byte a at) 0x80) || eqb (at + 1) end) _ _ (λ _. h)
       (λ _. count-later end (sized_at a true end (at + 1)) (sized-later true end (at + 1) a k inside (omega arith)))
 
-  definite-later : (s : Sized) → SizedLater k s → AnsweredLater k (definite_sized a s)
+  definite-later : (s : Result (ℕ × ℕ) ℕ) → SizedLater k s → AnsweredLater k (definite_sized a s)
   unfolding definite_sized
-  definite-later (sized.Size n from) h =
+  definite-later (Ok (n, from)) h =
       on_pick (AnsweredLater k) (eqb n 0) _ _ (λ _. omega arith) (λ _. at_later (from + n) from (omega arith))
-  definite-later (sized.Bad place) h = h
+  definite-later (Err place) h = h
 
   indefinite-later : k ≤ 1 → AnsweredLater k (indefinite_read a)
   unfolding indefinite_read
@@ -79,13 +77,13 @@ module _ (a : List ℕ) (k : ℕ) (inside : k ≤ length a) where
       on_pick (AnsweredLater k) (eqb (byte a 1) 0x80) _ _ (λ _. results-later false 0 0 2 a k inside (omega arith)) (λ _. h)
 
 -- a beginning with no byte
-none_read : (x : List ℕ) → length x ≤ 0 → expanded_read x ≡ Bad 0
+none_read : (x : List ℕ) → length x ≤ 0 → expanded_read x ≡ Err 0
 unfolding expanded_read pick
 none_read x h = rw (get_or-eq_default x 0 {n = 0} h)
 
-none-later : (k : ℕ) → k ≤ 0 → (r : Answered) → AnsweredLater k r
-none-later k h (Read s) = tt
-none-later k h (Bad place) = omega arith
+none-later : (k : ℕ) → k ≤ 0 → (r : Result Summary ℕ) → AnsweredLater k r
+none-later k h (Ok s) = tt
+none-later k h (Err place) = omega arith
 
 -- ---- in a beginning and in the whole
 
@@ -93,7 +91,7 @@ module _ (x a : List ℕ) (begins : Begins x a) where
   abbrev k : ℕ
   k = length x
 
-  abbrev K : Kind Answered
+  abbrev K : Kind (Result Summary ℕ)
   K = answered_kind (length a)
 
   read_cut : (end n from : ℕ) → Cut K k (count_read x end n from) (count_read a end n from)
@@ -112,11 +110,11 @@ module _ (x a : List ℕ) (begins : Begins x a) where
       (alike (eqb (byte a from) 0 && ltb (byte a (from + 1)) 0x80) (λ _. refused K (from + 1) (omega arith))
       (λ _. results_cut true end (num_at a from) (from + 2) x a begins (omega arith))))))))
 
-  count_cut : (end at : ℕ) (s : Sized) → SizedBefore at k s → Cut K k (count_sized x end s) (count_sized a end s)
+  count_cut : (end at : ℕ) (s : Result (ℕ × ℕ) ℕ) → SizedBefore at k s → Cut K k (count_sized x end s) (count_sized a end s)
   unfolding count_sized
-  count_cut end at (sized.Size n from) h =
+  count_cut end at (Ok (n, from)) h =
       alike (leb 1 n && leb n 2) (λ _. read_cut end n from) (λ _. refused K (from - 1) (omega arith))
-  count_cut end at (sized.Bad place) h = refused K place h
+  count_cut end at (Err place) h = refused K place h
 
   -- a byte that is looked at where none stands: it is no 80
   no_80 : (at : ℕ) → k ≤ at → eqb (byte x at) 0x80 ≡ false
@@ -128,7 +126,7 @@ module _ (x a : List ℕ) (begins : Begins x a) where
       by_place at k
       (λ l.
       let is : at ≡ k = omega arith in
-      missing (pick_true (not (eqb (byte x at) 0x80) || eqb (at + 1) end) _ _ (rw (no_80 at l)) ∙ ap Bad is) (at_later a k begins.inside end at l))
+      missing (pick_true (not (eqb (byte x at) 0x80) || eqb (at + 1) end) _ _ (rw (no_80 at l)) ∙ ap Err is) (at_later a k begins.inside end at l))
       (λ l.
       rw (begins.bytes at l)
       (alike (not (eqb (byte a at) 0x80) || eqb (at + 1) end) (λ _. refused K at h)
@@ -137,10 +135,10 @@ module _ (x a : List ℕ) (begins : Begins x a) where
       (λ b. count_cut end (at + 1) (sized_at a true end (at + 1)) b)
       (λ f. count-later a k begins.inside end (sized_at a true end (at + 1)) f))))
 
-  by_cut : (s : Sized) → SizedBefore 1 k s → Cut K k (definite_sized x s) (definite_sized a s)
+  by_cut : (s : Result (ℕ × ℕ) ℕ) → SizedBefore 1 k s → Cut K k (definite_sized x s) (definite_sized a s)
   unfolding definite_sized
-  by_cut (sized.Size n from) h = alike (eqb n 0) (λ _. refused K (from - 1) (omega arith)) (λ _. at_cut (from + n) from h.1)
-  by_cut (sized.Bad place) h = refused K place h
+  by_cut (Ok (n, from)) h = alike (eqb n 0) (λ _. refused K (from - 1) (omega arith)) (λ _. at_cut (from + n) from h.1)
+  by_cut (Err place) h = refused K place h
 
   definite_cut : Cut K k (definite_read x) (definite_read a)
   definite_cut =
@@ -155,7 +153,7 @@ module _ (x a : List ℕ) (begins : Begins x a) where
       by_place 1 k
       (λ l.
       let is : 1 ≡ k = omega arith in
-      missing (pick-false (eqb (byte x 1) 0x80) _ _ (no_80 1 l) ∙ ap Bad is) (indefinite-later a k begins.inside l))
+      missing (pick-false (eqb (byte x 1) 0x80) _ _ (no_80 1 l) ∙ ap Err is) (indefinite-later a k begins.inside l))
       (λ l.
       rw (begins.bytes 1 l)
       (alike (eqb (byte a 1) 0x80) (λ _. results_cut false 0 0 2 x a begins (omega arith)) (λ _. refused K 1 (omega arith))))
@@ -166,7 +164,7 @@ module _ (x a : List ℕ) (begins : Begins x a) where
       by_place 0 k
       (λ l.
       let is : 0 ≡ k = omega arith in
-      missing (none_read x l ∙ ap Bad is) (none-later k l (expanded_read a)))
+      missing (none_read x l ∙ ap Err is) (none-later k l (expanded_read a)))
       (λ l.
       rw (begins.bytes 0 l)
       (alike (eqb (byte a 0) 0xAB) (λ _. definite_cut)

@@ -8,30 +8,29 @@ use native.Mathlib.Omega.{arith}
 use lib.Dec.{leb, eqb}
 use lib.ListN.{length}
 use borrow.Author.Tests.{le-leb, lt-leb}
+use Rattle.std.specs.Prelude.{Result, Ok, Err}
 use Rattle.octets.specs.Choice.{pick}
 use Rattle.octets.specs.Bytes.{byte, num_at}
 use Rattle.octets.proofs.Picks.{on_pick, pick_true, pick-false}
 use Rattle.tlv.specs.declared.lengths.Length.{Length}
 use Rattle.tlv.specs.declared.lengths.Length.TheVariants as lengths
 use Rattle.tlv.specs.Lengths.{wrong_length, length_missing, short_length, long_length, length_at}
-use Rattle.answers.specs.declared.results.Sized.{Sized}
-use Rattle.answers.specs.declared.results.Sized.TheVariants as sized
 use Rattle.answers.specs.Results.{form_bytes, length_stop, sized_by, sized_at}
 use Rattle.exchange.proofs.Cut.{Begins, num_begins, by_place, Kind, Cut, same, missing, refused, alike_in}
 
 -- a length that was read at a place: its value begins further on
-abbrev pub SizedBefore : ℕ → ℕ → Sized → Type 0
-SizedBefore at k (sized.Size n from) = (at < from) × (from ≤ k)
-SizedBefore at k (sized.Bad place) = place ≤ k
+abbrev pub SizedBefore : ℕ → ℕ → Result (ℕ × ℕ) ℕ → Type 0
+SizedBefore at k (Ok (n, from)) = (at < from) × (from ≤ k)
+SizedBefore at k (Err place) = place ≤ k
 
-abbrev pub SizedLater : ℕ → Sized → Type 0
-SizedLater k (sized.Size n from) = k < from
-SizedLater k (sized.Bad place) = k ≤ place
+abbrev pub SizedLater : ℕ → Result (ℕ × ℕ) ℕ → Type 0
+SizedLater k (Ok (n, from)) = k < from
+SizedLater k (Err place) = k ≤ place
 
-abbrev pub sized_kind : ℕ → Kind Sized
+abbrev pub sized_kind : ℕ → Kind (Result (ℕ × ℕ) ℕ)
 sized_kind at =
     record {
-      bad = sized.Bad;
+      bad = Err;
       Before = SizedBefore at;
       Later = SizedLater;
       bad-before = λ k p h. h;
@@ -58,14 +57,14 @@ no_form b n m = pick-false (eqb b 0x81) _ _ n ∙ pick-false (eqb b 0x82) _ _ m
 
 module _ (definite : Bool) (end at : ℕ) where
   -- a length by what came of its reading
-  abbrev told : List ℕ → Length → Sized
+  abbrev told : List ℕ → Length → Result (ℕ × ℕ) ℕ
   told a = sized_by a definite end at
 
-  is_missing_lem : (a : List ℕ) → told a (lengths.Bad length_missing) ≡ sized.Bad (length a)
+  is_missing_lem : (a : List ℕ) → told a (lengths.Bad length_missing) ≡ Err (length a)
   unfolding sized_by length_stop pick
   is_missing_lem a = refl
 
-  is_wrong : (a : List ℕ) → told a (lengths.Bad wrong_length) ≡ sized.Bad (at + form_bytes (byte a at))
+  is_wrong : (a : List ℕ) → told a (lengths.Bad wrong_length) ≡ Err (at + form_bytes (byte a at))
   unfolding sized_by length_stop pick
   is_wrong a = refl
 

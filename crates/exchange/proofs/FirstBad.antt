@@ -10,14 +10,11 @@ use Prim.Native.Nat.{ℕ, ◌+◌, ◌≤◌, ◌<◌}
 use native.Mathlib.Omega.{arith}
 use lib.Dec.{eqb}
 use lib.ListN.{length, take, length-take, get_or-eq_default}
+use Rattle.std.specs.Prelude.{Result, Ok, Err}
 use Rattle.octets.specs.Bytes.{byte}
 use Rattle.octets.proofs.Picks.{either, pick_true, pick-false}
 use Rattle.answers.specs.declared.words.Words.TheVariants as words
-use Rattle.answers.specs.declared.words.Worded.{Worded}
-use Rattle.answers.specs.declared.words.Worded.TheVariants as worded
 use Rattle.answers.specs.declared.Summary.{Summary}
-use Rattle.answers.specs.declared.Answered.{Answered}
-use Rattle.answers.specs.declared.Answered.TheVariants.{Read, Bad}
 use Rattle.answers.specs.Words.{has_data, word_at}
 use Rattle.answers.specs.Results.{compact_word, compact_data}
 use Rattle.answers.specs.Answers.{word_read, compact_read, expanded_read, read_answer}
@@ -29,9 +26,9 @@ use Rattle.exchange.proofs.CompactAnswers as compact
 use Rattle.exchange.proofs.CompactAnswers.{other, places, Good, BadAt, good, bad}
 
 -- a reading's first bad byte
-pub record FirstBad (read : List ℕ → Answered) (x : List ℕ) (place : ℕ) : Type 0 where
+pub record FirstBad (read : List ℕ → Result Summary ℕ) (x : List ℕ) (place : ℕ) : Type 0 where
   pub inside : place ≤ length x
-  pub none : place < length x → (b : List ℕ) (s : Summary) → read b ≡ Read s → take (place + 1) b ≡ take (place + 1) x → ⊥
+  pub none : place < length x → (b : List ℕ) (s : Summary) → read b ≡ Ok s → take (place + 1) b ≡ take (place + 1) x → ⊥
 
 -- a run of bytes is a beginning of itself, and the first bytes that two have in common are a beginning of both
 self : (a : List ℕ) → Begins a a
@@ -45,7 +42,7 @@ long_take n x h = omega (arith, length-take n x)
 
 -- ---- expanded
 
-module _ (x : List ℕ) (place : ℕ) (is : expanded_read x ≡ Bad place) where
+module _ (x : List ℕ) (place : ℕ) (is : expanded_read x ≡ Err place) where
   expanded-first : FirstBad expanded_read x place
   expanded-first =
       record {
@@ -60,47 +57,41 @@ module _ (x : List ℕ) (place : ℕ) (is : expanded_read x ≡ Bad place) where
       }
 
 -- every beginning of a good one is bad at its end
-pub expanded-begun : (a : List ℕ) (s : Summary) (n : ℕ) → expanded_read a ≡ Read s → n < length a → expanded_read (take n a) ≡ Bad n
+pub expanded-begun : (a : List ℕ) (s : Summary) (n : ℕ) → expanded_read a ≡ Ok s → n < length a → expanded_read (take n a) ≡ Err n
 expanded-begun a s n read l = go (expanded_cut (take n a) a (begins_take n a))
   where
     size : length (take n a) ≡ n
     size = long_take n a (omega arith)
 
-    go : Cut (answered_kind (length a)) (length (take n a)) (expanded_read (take n a)) (expanded_read a) → expanded_read (take n a) ≡ Bad n
+    go : Cut (answered_kind (length a)) (length (take n a)) (expanded_read (take n a)) (expanded_read a) → expanded_read (take n a) ≡ Err n
     go (same e b) = absurd (let h = rw read at b in omega (arith, size))
-    go (missing e f) = e ∙ ap Bad size
+    go (missing e f) = e ∙ ap Err size
     go (behind e) = absurd (other e read)
 
 -- ---- compact
 
-word_places : (p q : ℕ) → worded.Bad p ≡ worded.Bad q → p ≡ q
-word_places p q e = cc
-
-no_word : {r : Worded} {w place : ℕ} → r ≡ worded.Word w → r ≡ worded.Bad place → ⊥
-no_word e f = let z : ◌≡◌ {A = ℕ} 0 1 = cc in omega arith
-
 -- a word that is read, in what has so many bytes of it
-module _ {y r : Worded} {k w : ℕ} (cut : Cut (word_kind compact_word) k y r) (is : r ≡ worded.Word w) where
-  word-short : k < compact_data → y ≡ worded.Bad k
+module _ {y r : Result ℕ ℕ} {k w : ℕ} (cut : Cut (word_kind compact_word) k y r) (is : r ≡ Ok w) where
+  word-short : k < compact_data → y ≡ Err k
   word-short h = go cut
     where
-      go : Cut (word_kind compact_word) k y r → y ≡ worded.Bad k
+      go : Cut (word_kind compact_word) k y r → y ≡ Err k
       go (same e b) = absurd (let g = rw is at b in omega arith)
       go (missing e l) = e
-      go (behind e) = absurd (no_word is e)
+      go (behind e) = absurd (other e is)
 
-  word-begun : compact_data < k → y ≡ worded.Word w
+  word-begun : compact_data < k → y ≡ Ok w
   word-begun h = go cut
     where
-      go : Cut (word_kind compact_word) k y r → y ≡ worded.Word w
+      go : Cut (word_kind compact_word) k y r → y ≡ Ok w
       go (same e b) = e ∙ is
       go (missing e l) = absurd (let g = rw is at l in omega arith)
-      go (behind e) = absurd (no_word is e)
+      go (behind e) = absurd (other e is)
 
-word_long : (a : List ℕ) (w : ℕ) → word_at words.Compact a compact_word ≡ worded.Word w → compact_data ≤ length a
+word_long : (a : List ℕ) (w : ℕ) → word_at words.Compact a compact_word ≡ Ok w → compact_data ≤ length a
 word_long a w is =
     by_place (length a) compact_data (λ l. l)
-    (λ h. absurd (no_word is (word-short (word_cut a a (self a) words.Compact compact_word) is h)))
+    (λ h. absurd (other (word-short (word_cut a a (self a) words.Compact compact_word) is h) is))
 
 module _ (x b : List ℕ) (place : ℕ) (l : place < length x) (g : Good b) (e : take (place + 1) b ≡ take (place + 1) x) where
   -- the bytes that they have in common
@@ -122,9 +113,9 @@ module _ (x b : List ℕ) (place : ℕ) (l : place < length x) (g : Good b) (e :
       false≢true (sym g.count ∙ (ap (λ (c : ℕ). eqb c 0) first ∙ zero))
   compact-none (compact.word is) =
       let h : place < length y = omega (arith, size) in
-      let begun = bad-begun (word_kind compact_word) word_places (length y) place h (λ f. f) (word_cut y x in_x words.Compact compact_word) is in
-      let whole = bad-whole (word_kind compact_word) word_places (length y) place h (word_cut y b in_b words.Compact compact_word) begun in
-      no_word g.read whole.1
+      let begun = bad-begun (word_kind compact_word) places (length y) place h (λ f. f) (word_cut y x in_x words.Compact compact_word) is in
+      let whole = bad-whole (word_kind compact_word) places (length y) place h (word_cut y b in_b words.Compact compact_word) begun in
+      other whole.1 g.read
   compact-none (compact.has p w is bare long) =
       let h : compact_data < length y = omega (arith, size) in
       let here = word-begun (word_cut y x in_x words.Compact compact_word) is h in
@@ -135,11 +126,11 @@ module _ (x b : List ℕ) (place : ℕ) (l : place < length x) (g : Good b) (e :
 
 compact-inside : (x : List ℕ) (place : ℕ) → BadAt x place → place ≤ length x
 compact-inside x place (compact.count is zero) = omega arith
-compact-inside x place (compact.word is) = bad-inside (word_kind compact_word) word_places (length x) place (λ h. h) (word_cut x x (self x) words.Compact compact_word) is
+compact-inside x place (compact.word is) = bad-inside (word_kind compact_word) places (length x) place (λ h. h) (word_cut x x (self x) words.Compact compact_word) is
 compact-inside x place (compact.has p w is bare long) = omega arith
 compact-inside x place (compact.most p long) = omega arith
 
-compact-first : (x : List ℕ) (place : ℕ) → compact_read x ≡ Bad place → FirstBad compact_read x place
+compact-first : (x : List ℕ) (place : ℕ) → compact_read x ≡ Err place → FirstBad compact_read x place
 compact-first x place is =
     record {
       inside = compact-inside x place (bad x place is);
@@ -147,7 +138,7 @@ compact-first x place is =
     }
 
 -- every beginning of a good one is bad at its end, before its third byte
-pub compact-begun : (a : List ℕ) (s : Summary) (n : ℕ) → compact_read a ≡ Read s → n < compact_data → compact_read (take n a) ≡ Bad n
+pub compact-begun : (a : List ℕ) (s : Summary) (n : ℕ) → compact_read a ≡ Ok s → n < compact_data → compact_read (take n a) ≡ Err n
 unfolding compact_read word_read
 compact-begun a s n read l =
     let g = good a s read in
@@ -157,25 +148,25 @@ compact-begun a s n read l =
     by_place 0 n
     (λ h.
     let none : n ≡ 0 = omega arith in
-    pick_true (eqb (byte x 0) 0) _ _ (rw (get_or-eq_default x 0 {n = 0} (omega arith))) ∙ ap Bad (sym none))
+    pick_true (eqb (byte x 0) 0) _ _ (rw (get_or-eq_default x 0 {n = 0} (omega arith))) ∙ ap Err (sym none))
     (λ h.
     let first = (begins_take n a).bytes 0 (omega arith) in
     let cut = word-short (word_cut x a (begins_take n a) words.Compact compact_word) g.read (omega arith) in
-    pick-false (eqb (byte x 0) 0) _ _ (ap (λ (c : ℕ). eqb c 0) first ∙ g.count) ∙ (ap (word_read x) cut ∙ ap Bad size))
+    pick-false (eqb (byte x 0) 0) _ _ (ap (λ (c : ℕ). eqb c 0) first ∙ g.count) ∙ (ap (word_read x) cut ∙ ap Err size))
 
 -- ---- both forms
 
 -- what holds of one reading holds of another that gives the same
-carried : {read other : List ℕ → Answered} → ((a : List ℕ) → read a ≡ other a) → ((x : List ℕ) (place : ℕ) → other x ≡ Bad place → FirstBad other x place)
-    → (x : List ℕ) (place : ℕ) → read x ≡ Bad place → FirstBad read x place
+carried : {read other : List ℕ → Result Summary ℕ} → ((a : List ℕ) → read a ≡ other a) → ((x : List ℕ) (place : ℕ) → other x ≡ Err place → FirstBad other x place)
+    → (x : List ℕ) (place : ℕ) → read x ≡ Err place → FirstBad read x place
 carried agree first x place is =
     let f = first x place (sym (agree x) ∙ is) in
     record { inside = f.inside; none = λ l b s good e. f.none l b s (sym (agree b) ∙ good) e }
 
-nothing-first : (x : List ℕ) (place : ℕ) → Bad 0 ≡ Bad place → FirstBad (λ a. Bad 0) x place
+nothing-first : (x : List ℕ) (place : ℕ) → ◌≡◌ {A = Result Summary ℕ} (Err 0) (Err place) → FirstBad (λ a. Err 0) x place
 nothing-first x place is = record { inside = omega (arith, places 0 place is); none = λ l b s good e. other refl good }
 
-pub first-bad : (format : ℕ) (x : List ℕ) (place : ℕ) → read_answer format x ≡ Bad place → FirstBad (read_answer format) x place
+pub first-bad : (format : ℕ) (x : List ℕ) (place : ℕ) → read_answer format x ≡ Err place → FirstBad (read_answer format) x place
 unfolding read_answer
 first-bad format =
     ⊎_elim

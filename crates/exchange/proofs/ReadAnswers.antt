@@ -10,19 +10,19 @@ use native.Mathlib.Omega.{arith}
 use lib.Dec.{leb, ltb, eqb}
 use lib.ListN.{length, length-append}
 use borrow.Author.Tests.{lt-ltb, le-ltb, le-leb, eq-eqb, ne_eqb, eqb-true, ltb-true, ltb-false}
+use Rattle.std.specs.Prelude.{Result, Ok}
 use Rattle.octets.specs.Choice.{pick}
 use Rattle.octets.specs.Bytes.{byte, bytes2}
 use Rattle.octets.proofs.Picks.{yes, no, lt_no, le_no, eq_yes, eq_no, on_pick, refuted, and_left, and_right, and_both}
 use Rattle.tlv.specs.Lengths.{length_bytes}
 use Rattle.expanded.specs.Expanded as expanded
-use Rattle.answers.specs.declared.Answered.TheVariants.{Read}
 use Rattle.answers.specs.declared.turns.Turn.{Turn}
-use Rattle.answers.specs.Answers.{stopped, definite_end, indefinite_end, turned, first_turn, answered_by, results_read, count_read, count_sized, count_at, definite_by, definite_read, indefinite_read, expanded_read, read_answer}
+use Rattle.answers.specs.Answers.{definite_end, indefinite_end, turned, first_turn, answered_by, results_read, count_read, count_sized, count_at, definite_by, definite_read, indefinite_read, expanded_read, read_answer}
 use Rattle.exchange.specs.ReadBack.{Reply, IsRead}
 use Rattle.exchange.proofs.Replies.{encoded, all_encoded, AllGood}
 use Rattle.exchange.proofs.Places.{Stands, stands-whole, stands-first, stands_second, stands-next, stands-inside, stands-byte, stands_num, stands-length}
 use Rattle.exchange.proofs.ReadResult.{reply_some, sized-read}
-use Rattle.exchange.proofs.ReadResults.{turn_at, Enough, HasResult, ReadTo, Ends, turns_read}
+use Rattle.exchange.proofs.ReadResults.{Enough, HasResult, ReadTo, Ends, turns_read}
 use Rattle.exchange.proofs.ReadTold.{told-read}
 
 -- each reply takes a byte or more
@@ -33,10 +33,10 @@ replies_few (r ∷ rs) = omega (arith, reply_some r, replies_few rs, length-appe
 
 -- ---- the results, where all that stands before them is read
 
-answered-read : (definite : Bool) (count first place seen : ℕ) (t : Turn) → ReadTo place seen t
-    → answered_by definite count first t ≡ Read (record { count = pick definite count seen; first = first; end = place })
+answered-read : (definite : Bool) (count first place seen : ℕ) (r : Result Turn ℕ) → ReadTo place seen r
+    → answered_by definite count first r ≡ Ok (record { count = pick definite count seen; first = first; end = place })
 unfolding answered_by
-answered-read definite count first place seen t is = sym (yes t.good _ is.good (rw (is.seen, is.at)))
+answered-read definite count first place seen r is = rw is.1
 
 module _ (answer : List ℕ) (definite : Bool) (end place : ℕ) (fits : definite ≡ true → place ≤ end) (ends : Ends answer definite end place) where
   replies_read : (rs : List Reply) (first count : ℕ) → AllGood rs → Stands (all_encoded rs) answer first → first + length (all_encoded rs) ≡ place
@@ -45,11 +45,12 @@ module _ (answer : List ℕ) (definite : Bool) (end place : ℕ) (fits : definit
   unfolding results_read first_turn
   replies_read rs first count good s e enough one front =
       let few : length rs ≤ length answer = omega (arith, replies_few rs, stands-inside answer first (all_encoded rs) s) in
-      let all = turns_read answer definite end place fits ends (length answer + 1) rs first 0 (pick definite count 1) good s e enough one (omega arith) in
+      let none : 0 + length rs ≡ length rs = omega arith in
+      let all = rw none at (turns_read answer definite end place fits ends (length answer + 1) rs first 0 (pick definite count 1) good s e enough one (omega arith)) in
       record {
         first = first;
         end = place;
-        summary = front ∙ answered-read definite count first place (length rs) _ (record { good = all.good; at = all.at; seen = all.seen ∙ omega arith });
+        summary = front ∙ answered-read definite count first place (length rs) _ all;
         results = told-read answer place (length answer) rs first good s e few;
       }
 
@@ -83,8 +84,7 @@ indefinite_read_lem rs good =
 definite_ends : (answer : List ℕ) (end : ℕ) → length answer ≡ end → Ends answer true end end
 unfolding turned definite_end
 definite_ends answer end e seen left one =
-    let good : ((eqb seen 0 && ltb 0 left) || ltb end (length answer)) ≡ false = rw (one refl, le-ltb end (length answer) (omega arith)) in
-    sym (eq_yes end end _ refl (ap (λ (bad : Bool). stopped (not bad) (turn_at end seen left) end) (sym good)))
+    sym (eq_yes end end _ refl (no ((eqb seen 0 && ltb 0 left) || ltb end (length answer)) _ (rw (one refl, le-ltb end (length answer) (omega arith))) refl))
 
 -- the count, "as shortest signed integer (128 is 00 80)"
 module _ (answer : List ℕ) (end at count : ℕ) where

@@ -8,12 +8,12 @@ use native.Mathlib.Omega.{arith}
 use lib.Dec.{leb, eqb}
 use lib.ListN.{length, length-append}
 use borrow.Author.Tests.{le-leb, lt-leb}
+use Rattle.std.specs.Prelude.{Ok}
 use Rattle.octets.specs.Choice.{pick}
 use Rattle.octets.specs.Bytes.{byte, part, bytes2}
 use Rattle.octets.proofs.Picks.{yes, no, lt_no, le_no, and_both}
 use Rattle.tlv.specs.Lengths.{length_bytes}
 use Rattle.expanded.specs.Expanded as expanded
-use Rattle.answers.specs.declared.results.Sized.TheVariants.{Size}
 use Rattle.answers.specs.declared.results.Piece.{Piece}
 use Rattle.answers.specs.declared.results.Piece.TheVariants.{Result, BadFormat}
 use Rattle.answers.specs.Results.{sized_by, sized_at, rapdu_ends, words_behind, rapdu_of, bad_format_of, is_tag, value_of, piece_at}
@@ -75,7 +75,7 @@ holds_in false test h = refl
 module _ (answer : List ℕ) (definite : Bool) (end : ℕ) where
   -- a length whose value is before the end
   pub sized-read : (at n : ℕ) → n < 65536 → Stands (length_bytes n) answer at → (definite ≡ true → at + length (length_bytes n) + n ≤ end)
-      → sized_at answer definite end at ≡ Size n (at + length (length_bytes n))
+      → sized_at answer definite end at ≡ Ok (n, at + length (length_bytes n))
   unfolding sized_at sized_by
   sized-read at n small s fits =
       ap (sized_by answer definite end at) (stands-length answer at n small s)
@@ -91,7 +91,7 @@ module _ (answer : List ℕ) (definite : Bool) (end : ℕ) where
       (ap (λ (b : ℕ). value_of answer b (sized_at answer definite end (at + 1))) (sym e)))
 
   rapdu-read : (at w : ℕ) (d : List ℕ) {last : Bool} → GoodResult last w d → Stands (expanded.rapdu d w) answer at
-      → (definite ≡ true → at + length (expanded.rapdu d w) ≤ end) → piece_at answer definite end at ≡ Result w (data_place at d) (length d)
+      → (definite ≡ true → at + length (expanded.rapdu d w) ≤ end) → piece_at answer definite end at ≡ Ok (Result w (data_place at d) (length d))
   unfolding expanded.rapdu value_of rapdu_of rapdu_ends pick bytes2
   rapdu-read at w d good s fits =
       let n : ℕ = length d + 2 in
@@ -103,7 +103,7 @@ module _ (answer : List ℕ) (definite : Bool) (end : ℕ) where
       ∙ sym (lt_no n 2 _ (omega arith) (rw (count, word_read (words_behind (length d)) w good.word answer (data_place at d + length d) word)))
 
   bad-read : (at code : ℕ) {last : Bool} → GoodCode last code → Stands (expanded.bad_format code) answer at
-      → (definite ≡ true → at + 3 ≤ end) → piece_at answer definite end at ≡ BadFormat code (at + 2)
+      → (definite ≡ true → at + 3 ≤ end) → piece_at answer definite end at ≡ Ok (BadFormat code (at + 2))
   unfolding expanded.bad_format value_of bad_format_of pick length_bytes
   bad-read at code good s fits =
       let behind = stands-next answer at 0x90 (1 ∷ code ∷ []) s in
@@ -115,10 +115,10 @@ module _ (answer : List ℕ) (definite : Bool) (end : ℕ) where
       (le_no (length answer) (at + 1 + 1) _ (omega (arith, stands-inside answer (at + 1 + 1) (code ∷ []) value))
       (rw is
       (yes (leb 1 code && leb code 3) _ (and_both (leb 1 code) (leb code 3) (le-leb 1 code good.least) (le-leb code 3 good.most))
-      (ap (BadFormat code) (omega arith)))))
+      (ap (λ (place : ℕ). Ok (BadFormat code place)) (omega arith)))))
 
   pub piece_read : (at : ℕ) (r : Reply) (last : Bool) → GoodReply last r → Stands (encoded r) answer at
-      → (definite ≡ true → at + length (encoded r) ≤ end) → piece_at answer definite end at ≡ piece_of at r
+      → (definite ≡ true → at + length (encoded r) ≤ end) → piece_at answer definite end at ≡ Ok (piece_of at r)
   unfolding GoodReply encoded piece_of expanded.bad_format
   piece_read at (replied w d) last good s fits = rapdu-read at w d good s fits
   piece_read at (bad_format code) last good s fits = bad-read at code good s fits

@@ -10,12 +10,13 @@ use native.Mathlib.Omega.{arith}
 use lib.Dec.{ltb, eqb}
 use lib.ListN.{length, length-append}
 use borrow.Author.Tests.{ne_eqb}
+use Rattle.std.specs.Prelude.{Some, None, Result, Ok}
 use Rattle.octets.specs.Choice.{pick}
 use Rattle.octets.specs.Bytes.{byte}
 use Rattle.octets.proofs.Picks.{no, le_no, eq_no}
 use Rattle.expanded.specs.Expanded as expanded
 use Rattle.answers.specs.declared.turns.Turn.{Turn}
-use Rattle.answers.specs.Answers.{stopped, went_on, left_behind, turned_by, turned, turns_from}
+use Rattle.answers.specs.Answers.{went_on, left_behind, turned_by, turned, turns_from}
 use Rattle.exchange.specs.ReadBack.{Reply, replied, bad_format}
 use Rattle.exchange.proofs.Replies.{encoded, all_encoded, GoodReply, AllGood}
 use Rattle.exchange.proofs.Places.{Stands, stands-first, stands_second, stands-inside}
@@ -35,7 +36,7 @@ module _ (r : Reply) where
 
 -- a turn before which `seen` results were read and `left` may still come
 abbrev pub turn_at : ℕ → ℕ → ℕ → Turn
-turn_at at seen left = record { at = at; seen = seen; left = left; going = true; good = false }
+turn_at at seen left = record { at = at; seen = seen; left = left }
 
 -- how many may come behind a reply
 unfoldable left_after : Bool → Reply → ℕ → ℕ
@@ -66,21 +67,19 @@ abbrev pub HasResult : Bool → ℕ → ℕ → Type 0
 HasResult definite seen left = definite ≡ true → (eqb seen 0 && ltb 0 left) ≡ false
 
 -- a reading that is good up to a place
-pub record ReadTo (place count : ℕ) (t : Turn) : Type 0 where
-  pub good : t.good ≡ true
-  pub at : t.at ≡ place
-  pub seen : t.seen ≡ count
+abbrev pub ReadTo : ℕ → ℕ → Result Turn ℕ → Type 0
+ReadTo place count r = (left : ℕ) × (r ≡ Ok (turn_at place count left))
 
 -- what one reply makes of a turn
 piece_turns : (definite : Bool) (at seen left : ℕ) (r : Reply)
-    → turned_by definite (turn_at at seen left) (piece_of at r) ≡ turn_at (at + length (encoded r)) (seen + 1) (left_after definite r left)
+    → turned_by definite (turn_at at seen left) (Ok (piece_of at r)) ≡ Ok (Some (turn_at (at + length (encoded r)) (seen + 1) (left_after definite r left)))
 unfolding turned_by piece_of went_on left_after encoded expanded.bad_format
-piece_turns definite at seen left (replied w d) = ap (λ (place : ℕ). turn_at place (seen + 1) (left_behind definite w left)) (behind-rapdu at d w)
-piece_turns definite at seen left (bad_format code) = ap (λ (place : ℕ). turn_at place (seen + 1) 0) (omega arith)
+piece_turns definite at seen left (replied w d) = ap (λ (place : ℕ). Ok (Some (turn_at place (seen + 1) (left_behind definite w left)))) (behind-rapdu at d w)
+piece_turns definite at seen left (bad_format code) = ap (λ (place : ℕ). Ok (Some (turn_at place (seen + 1) 0))) (omega arith)
 
 module _ (answer : List ℕ) (definite : Bool) (end : ℕ) where
   turn_read : (at seen left : ℕ) (r : Reply) (last : Bool) → GoodReply last r → Stands (encoded r) answer at → (definite ≡ true → at + length (encoded r) ≤ end) → 1 ≤ left
-      → turned answer definite end (turn_at at seen left) ≡ turn_at (at + length (encoded r)) (seen + 1) (left_after definite r left)
+      → turned answer definite end (turn_at at seen left) ≡ Ok (Some (turn_at (at + length (encoded r)) (seen + 1) (left_after definite r left)))
   unfolding turned
   turn_read at seen left r last good s fits some =
       let size = reply_some r in
@@ -91,14 +90,9 @@ module _ (answer : List ℕ) (definite : Bool) (end : ℕ) where
       (eq_no left 0 _ (λ none. omega arith)
       (sym (ap (turned_by definite (turn_at at seen left)) (piece_read answer definite end at r last good s fits) ∙ piece_turns definite at seen left r))))))
 
-  turns_stopped : (n : ℕ) (good : Bool) (t : Turn) (place : ℕ) → turns_from n answer definite end (stopped good t place) ≡ stopped good t place
-  unfolding turns_from stopped
-  turns_stopped zero good t place = refl
-  turns_stopped (suc n) good t place = refl
-
   -- the turn at the place where the replies end
   abbrev pub Ends : ℕ → Type 0
-  Ends place = (seen left : ℕ) → HasResult definite seen left → turned answer definite end (turn_at place seen left) ≡ stopped true (turn_at place seen left) place
+  Ends place = (seen left : ℕ) → HasResult definite seen left → turned answer definite end (turn_at place seen left) ≡ Ok None
 
   module _ (place : ℕ) (fits : definite ≡ true → place ≤ end) (ends : Ends place) where
     pub turns_read : (n : ℕ) (rs : List Reply) (at seen left : ℕ) → AllGood rs → Stands (all_encoded rs) answer at → at + length (all_encoded rs) ≡ place
@@ -108,8 +102,8 @@ module _ (answer : List ℕ) (definite : Bool) (end : ℕ) where
     turns_read zero rs at seen left good s e enough one more = absurd (not-suc-le-zero more)
     turns_read (suc n) [] at seen left good s e enough one more =
         let here : at ≡ place = omega arith in
-        rw (here, ends seen left (one refl), turns_stopped n true (turn_at place seen left) place)
-        (unfold stopped in record { good = refl; at = refl; seen = omega arith })
+        let all : seen ≡ seen + 0 = omega arith in
+        rw (here, ends seen left (one refl), turns_from) (left, λ i. Ok (turn_at (here i) (all i) left))
     turns_read (suc n) (r ∷ rs) at seen left good s e enough one more =
         let size = length-append (encoded r) (all_encoded rs) in
         let first = first_good r rs good in
@@ -124,4 +118,5 @@ module _ (answer : List ℕ) (definite : Bool) (end : ℕ) where
         (λ _ _. ap (λ (b : Bool). b && ltb 0 (left_after definite r left)) (ne_eqb (seen + 1) 0 (λ h. omega arith)))
         (omega arith)
         in
-        rw turn (record { good = others.good; at = others.at; seen = others.seen ∙ omega arith })
+        let all : seen + 1 + length rs ≡ seen + suc (length rs) = omega arith in
+        rw (turn, turns_from) (others.0, others.1 ∙ ap (λ (n : ℕ). Ok (turn_at place n others.0)) all)

@@ -8,11 +8,12 @@ use native.Mathlib.Nat.{not-suc-le-zero}
 use native.Mathlib.Omega.{arith}
 use lib.ListN.{length, length-append}
 use borrow.Author.Tests.{le-leb}
+use Rattle.std.specs.Prelude.{Option, Some, None, Ok}
 use Rattle.octets.specs.Choice.{pick}
 use Rattle.octets.specs.Bytes.{part}
 use Rattle.octets.proofs.Picks.{yes, lt_no}
 use Rattle.answers.specs.declared.results.Told.{Told}
-use Rattle.answers.specs.declared.results.Told.TheVariants.{Result, BadFormat, End}
+use Rattle.answers.specs.declared.results.Told.TheVariants.{Result, BadFormat}
 use Rattle.answers.specs.Results.{piece_at, piece_told, result_at}
 use Rattle.exchange.specs.ReadBack.{Reply, replied, bad_format, told_from}
 use Rattle.exchange.proofs.Replies.{encoded, all_encoded, GoodReply, AllGood}
@@ -26,25 +27,25 @@ module _ (answer : List ℕ) (end : ℕ) where
   unfolding result_at pick
   piece_told_lem at inside = sym (lt_no (length answer) end _ inside refl)
 
-  none_told : end ≤ length answer → result_at 1 answer end end ≡ End
+  none_told : end ≤ length answer → result_at 1 answer end end ≡ None
   unfolding piece_at piece_told
   none_told inside = piece_told_lem end inside ∙ ap piece_told (sym (yes _ _ (rw (le-leb end (end + 1) (omega arith))) refl))
 
   -- one telling by what is told
-  abbrev told_by : ℕ → Told → List Reply
+  abbrev told_by : ℕ → Option Told → List Reply
   told_by n t =
       elim t [
-        | Result w from count ↦ replied w (part answer from count) ∷ told_from n 1 answer (from + count + 2) end
-        | BadFormat code ↦ bad_format code ∷ []
-        | End ↦ []
+        | Some (Result w from count) ↦ replied w (part answer from count) ∷ told_from n 1 answer (from + count + 2) end
+        | Some (BadFormat code) ↦ bad_format code ∷ []
+        | None ↦ []
       ]
 
-  told-by : (n at : ℕ) (t : Told) → result_at 1 answer at end ≡ t → told_from (suc n) 1 answer at end ≡ told_by n t
+  told-by : (n at : ℕ) (t : Option Told) → result_at 1 answer at end ≡ t → told_from (suc n) 1 answer at end ≡ told_by n t
   unfolding told_from
   told-by n at t e = ap (told_by n) e
 
   -- a first reply and the others
-  reply_told : (n at : ℕ) (r : Reply) (rs : List Reply) → AllGood (r ∷ rs) → Stands (encoded r) answer at → result_at 1 answer at end ≡ piece_told (piece_of at r)
+  reply_told : (n at : ℕ) (r : Reply) (rs : List Reply) → AllGood (r ∷ rs) → Stands (encoded r) answer at → result_at 1 answer at end ≡ piece_told (Ok (piece_of at r))
       → told_from n 1 answer (at + length (encoded r)) end ≡ rs → told_from (suc n) 1 answer at end ≡ r ∷ rs
   unfolding piece_told piece_of AllGood GoodReply
   reply_told n at (replied w d) rs good here told others =
@@ -59,7 +60,7 @@ module _ (answer : List ℕ) (end : ℕ) where
   told-read zero (r ∷ rs) at good s e more = absurd (not-suc-le-zero more)
   told-read (suc n) [] at good s e more =
       let here : at ≡ end = omega arith in
-      rw here (told-by n end End (none_told (omega (arith, stands-inside answer at [] s))))
+      rw here (told-by n end None (none_told (omega (arith, stands-inside answer at [] s))))
   told-read (suc n) (r ∷ rs) at good s e more =
       let size = length-append (encoded r) (all_encoded rs) in
       let first = first_good r rs good in

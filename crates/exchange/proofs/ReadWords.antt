@@ -9,11 +9,11 @@ use native.Mathlib.Omega.{arith}
 use lib.Dec.{leb, ltb, eqb}
 use lib.ListN.{length}
 use borrow.Author.Tests.{ltb-true, lt-ltb, leb-true, eqb-true}
+use Rattle.std.specs.Prelude.{Ok}
 use Rattle.octets.specs.Bytes.{byte, num_at, bytes2}
 use Rattle.octets.proofs.Picks.{yes, no, le_no, and_left, and_right, or_either}
 use Rattle.answers.specs.declared.words.Words.{Words}
 use Rattle.answers.specs.declared.words.Words.TheVariants.{Compact, Expanded, WithData}
-use Rattle.answers.specs.declared.words.Worded.TheVariants.{Word}
 use Rattle.answers.specs.Words.{has_data, is_common, is_word, begins_common, begins_word, word_at}
 use Rattle.exchange.proofs.Places.{Stands, stands-byte, stands_num, stands-inside}
 
@@ -78,7 +78,7 @@ module _ (words : Words) (w : ℕ) (is : is_word words w ≡ true) where
   pub word_small : w < 65536
   word_small = ltb-true w 65536 (and_left (ltb w 65536) (begins_word words (w / 256)) (word-begun w words is))
 
-  pub word_read : (answer : List ℕ) (at : ℕ) → Stands (bytes2 w) answer at → word_at words answer at ≡ Word w
+  pub word_read : (answer : List ℕ) (at : ℕ) → Stands (bytes2 w) answer at → word_at words answer at ≡ Ok w
   unfolding word_at bytes2
   word_read answer at s =
       let first : byte answer at ≡ w / 256 = stands-byte answer at (w / 256 % 256) (w % 256 ∷ []) s ∙ omega (arith, word_small) in
@@ -89,4 +89,4 @@ module _ (words : Words) (w : ℕ) (is : is_word words w ≡ true) where
       (le_no (length answer) at _ (omega arith)
       (no (not (begins_word words (byte answer at))) _ (rw (first, begins))
       (le_no (length answer) (at + 1) _ (omega arith)
-      (yes (is_word words (num_at answer at)) _ (rw number is) (ap Word (sym number))))))
+      (yes (is_word words (num_at answer at)) _ (rw number is) (ap Ok (sym number))))))

@@ -1,5 +1,5 @@
 -- "a damaged answer is refused with the place of its first bad byte".
-use Rattle.std.specs.Prelude.{ℕ, ◌+◌, ◌≤◌, ◌<◌, List, ◌≡◌, length, take}
+use Rattle.std.specs.Prelude.{ℕ, ◌+◌, ◌≤◌, ◌<◌, List, ◌≡◌, length, take, Ok, Err}
 use Rattle.octets.specs.Bytes.{AllBytes}
 use Rattle.card.specs.Row.{Card}
 use Rattle.engine.specs.Numbers.{Arguments, format_of}
@@ -8,7 +8,6 @@ use Rattle.engine.specs.Worked.{answer_of}
 use Rattle.demands.specs.Called.{number}
 use Rattle.demands.specs.Demand2.{format_number}
 use Rattle.answers.specs.declared.Summary.{Summary}
-use Rattle.answers.specs.declared.Answered.TheVariants.{Read, Bad}
 use Rattle.answers.specs.Answers.{read_answer}
 
 -- an answer of which the reader says that the byte at a place is bad
@@ -22,15 +21,15 @@ pub record Damaged (format : ℕ) (answer : List ℕ) (place : ℕ) : Type 0 whe
       → take (place + 1) (answer_of (run a c)) ≡ take (place + 1) answer → ⊥
 
 abbrev pub EachDamaged : Type 0
-EachDamaged = (format : ℕ) (answer : List ℕ) (place : ℕ) → AllBytes answer → read_answer format answer ≡ Bad place → Damaged format answer place
+EachDamaged = (format : ℕ) (answer : List ℕ) (place : ℕ) → AllBytes answer → read_answer format answer ≡ Err place → Damaged format answer place
 
 -- every beginning of a good expanded answer is bad at its length, and so is every beginning of a compact one before its third byte
 abbrev pub CutExpanded : Type 0
 CutExpanded =
-    (answer : List ℕ) (s : Summary) (n : ℕ) → AllBytes answer → read_answer 1 answer ≡ Read s → n < length answer
-    → read_answer 1 (take n answer) ≡ Bad n
+    (answer : List ℕ) (s : Summary) (n : ℕ) → AllBytes answer → read_answer 1 answer ≡ Ok s → n < length answer
+    → read_answer 1 (take n answer) ≡ Err n
 
 abbrev pub CutCompact : Type 0
 CutCompact =
-    (answer : List ℕ) (s : Summary) (n : ℕ) → AllBytes answer → read_answer 0 answer ≡ Read s → n < 3
-    → read_answer 0 (take n answer) ≡ Bad n
+    (answer : List ℕ) (s : Summary) (n : ℕ) → AllBytes answer → read_answer 0 answer ≡ Ok s → n < 3
+    → read_answer 0 (take n answer) ≡ Err n

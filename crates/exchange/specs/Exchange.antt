@@ -1,5 +1,5 @@
 -- What a desk and a card say to each other, in one statement: scripts are understood, answers are read back, and damage is seen.
-use Rattle.std.specs.Prelude.{ℕ, ◌≡◌}
+use Rattle.std.specs.Prelude.{◌≡◌}
 use Rattle.octets.specs.Bytes.{AllBytes}
 use Rattle.card.specs.Row.{Card}
 use Rattle.engine.specs.Numbers.{Arguments}

@@ -1,5 +1,5 @@
 -- "What the engine answers must be read back to the same count, status words and data".
-use Rattle.std.specs.Prelude.{ℕ, Option, Bool, true, false, List, [], ◌∷◌, ◌≡◌, length}
+use Rattle.std.specs.Prelude.{ℕ, Option, Bool, true, false, List, [], ◌∷◌, ◌≡◌, length, Ok}
 use Rattle.card.specs.Row.{Card}
 use Rattle.tlv.specs.declared.template.Template.{Template}
 use Rattle.tlv.specs.Templates.{template_of}
@@ -17,7 +17,6 @@ use Rattle.engine.specs.Worked.{answer_of}
 use Rattle.demands.specs.Commands as commands
 use Rattle.demands.specs.Commands.{Piece, pieces_of, is_definite, progress_after}
 use Rattle.demands.specs.Demand2.{format_number}
-use Rattle.answers.specs.declared.Answered.TheVariants as answered
 pub use Rattle.answers.specs.Told.{Reply, replied, bad_format}
 unfoldable pub use Rattle.answers.specs.Told.{told_from}
 use Rattle.answers.specs.Answers.{read_answer}
@@ -65,7 +64,7 @@ replies_of Expanded a c =
 pub record IsRead (format : ℕ) (answer : List ℕ) (count : ℕ) (replies : List Reply) : Type 0 where
   pub first : ℕ
   pub end : ℕ
-  pub summary : read_answer format answer ≡ answered.Read (record { count = count; first = first; end = end })
+  pub summary : read_answer format answer ≡ Ok (record { count = count; first = first; end = end })
   pub results : told_from (length answer) format answer first end ≡ replies
 
 -- the reader on the answer of an accepted run gives the run's count, and the words and data of the commands whose R-APDU stands in it

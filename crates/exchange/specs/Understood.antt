@@ -4,7 +4,6 @@ use Rattle.octets.specs.Choice.{pick}
 use Rattle.card.specs.Row.{Card}
 use Rattle.tlv.specs.declared.template.Template.TheVariants.{Definite}
 use Rattle.tlv.specs.Templates.{template_of}
-use Rattle.command.specs.declared.Format.{Format}
 use Rattle.command.specs.declared.Format.TheVariants.{Compact, Expanded}
 use Rattle.command.specs.Instructions as ins
 use Rattle.expanded.specs.Capdu.{capdu_command}

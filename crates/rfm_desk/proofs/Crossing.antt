@@ -6,15 +6,15 @@ use mathlib.Core.Path.{◌≡◌, refl, ap, ◌∙◌}
 use mathlib.Core.List.{List}
 use native.Mathlib.Omega.{arith}
 use lib.ListN.{length}
+use Rattle.std.specs.Prelude.{Option, Some, None, Result, Ok, Err}
 use Rattle.octets.proofs.Picks.{lt_yes, lt_no}
 use Rattle.boundary.specs.Packed.{packed, Fits}
 use Rattle.boundary.proofs.Apart.{number_back, count_back, length_back, low_back, middle_back, high_back}
 use Rattle.operations.specs.declared.Built.{Built}
 use Rattle.operations.specs.Builds.{Building, building, BuiltFits}
-use Rattle.answers.specs.declared.Answered.{Answered}
-use Rattle.answers.specs.declared.Answered.TheVariants.{Read, Bad}
+use Rattle.answers.specs.declared.Summary.{Summary}
 use Rattle.answers.specs.declared.results.Told.{Told}
-use Rattle.answers.specs.declared.results.Told.TheVariants.{Result, BadFormat, End}
+use Rattle.answers.specs.declared.results.Told.TheVariants as told
 use Rattle.answers.specs.Results.{result_at}
 use Rattle.answers.specs.Answers.{read_answer}
 use Rattle.answers.specs.Promised.{AnsweredFits, ToldFits}
@@ -56,15 +56,15 @@ module _ (format : ℕ) (answer : List ℕ) where
   unfolding answer_parts
   too_long long = lt_yes most_answer (length answer) _ long refl
 
-  pub is_read : length answer ≤ most_answer → {r : Answered} → r ≡ read_answer format answer → read_parts r ≡ answer_parts format answer
+  pub is_read : length answer ≤ most_answer → {r : Result Summary ℕ} → r ≡ read_answer format answer → read_parts r ≡ answer_parts format answer
   unfolding answer_parts
   is_read short e = lt_no most_answer (length answer) _ short (ap read_parts e)
 
-pub read_fits : (size : ℕ) (r : Answered) → size ≤ most_answer → AnsweredFits size r → Fits (read_parts r).number (read_parts r).count (read_parts r).place
+pub read_fits : (size : ℕ) (r : Result Summary ℕ) → size ≤ most_answer → AnsweredFits size r → Fits (read_parts r).number (read_parts r).count (read_parts r).place
 unfolding AnsweredFits read_parts
-read_fits size (Read s) short fits =
+read_fits size (Ok s) short fits =
     record { number = omega arith; count = omega (arith, fits.count most_answer (omega arith) short); length = omega (arith, fits.first, fits.end) }
-read_fits size (Bad place) short fits = record { number = omega arith; count = omega arith; length = omega arith }
+read_fits size (Err place) short fits = record { number = omega arith; count = omega arith; length = omega arith }
 
 -- ---- a result
 
@@ -92,16 +92,16 @@ module _ (format : ℕ) (answer : List ℕ) (place : ℕ) where
   unfolding result_parts
   none_told long = lt_yes most_answer (length answer) _ long refl
 
-  pub is-told : length answer ≤ most_answer → {t : Told} → t ≡ result_at format answer place (length answer) → told_parts t ≡ result_parts format answer place
+  pub is-told : length answer ≤ most_answer → {t : Option Told} → t ≡ result_at format answer place (length answer) → told_parts t ≡ result_parts format answer place
   unfolding result_parts
   is-told short e = lt_no most_answer (length answer) _ short (ap told_parts e)
 
 pub nothing-few : Few (shown 0 0 0)
 nothing-few = record { word = omega arith; data_length = omega arith; place = omega arith }
 
-pub told-few : (size at : ℕ) (t : Told) → size ≤ most_answer → ToldFits size at t → Few (told_parts t)
+pub told-few : (size at : ℕ) (t : Option Told) → size ≤ most_answer → ToldFits size at t → Few (told_parts t)
 unfolding ToldFits told_parts
-told-few size at (Result word from count) short fits =
+told-few size at (Some (told.Result word from count)) short fits =
     record { word = fits.small; data_length = fits.few; place = omega (arith, fits.inside) }
-told-few size at (BadFormat code) short fits = record { word = omega arith; data_length = omega arith; place = omega arith }
-told-few size at End short fits = nothing-few
+told-few size at (Some (told.BadFormat code)) short fits = record { word = omega arith; data_length = omega arith; place = omega arith }
+told-few size at None short fits = nothing-few

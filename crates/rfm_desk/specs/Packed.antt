@@ -1,13 +1,12 @@
 -- What a caller in C gets of the desk's calls.
-use Rattle.std.specs.Prelude.{ℕ, ◌+◌, ◌*◌, ◌^◌, ◌/◌, ◌%◌, List, length, ltb}
+use Rattle.std.specs.Prelude.{ℕ, ◌+◌, ◌*◌, ◌^◌, ◌/◌, ◌%◌, List, length, ltb, Option, Some, None, Result, Ok, Err}
 use Rattle.octets.specs.Choice.{pick}
 use Rattle.boundary.specs.Packed.{packed, number_in, count_in, length_in}
 use Rattle.operations.specs.declared.Built.{Built}
 use Rattle.operations.specs.Builds.{Building}
-use Rattle.answers.specs.declared.Answered.{Answered}
-use Rattle.answers.specs.declared.Answered.TheVariants.{Read, Bad}
+use Rattle.answers.specs.declared.Summary.{Summary}
 use Rattle.answers.specs.declared.results.Told.{Told}
-use Rattle.answers.specs.declared.results.Told.TheVariants.{Result, BadFormat, End}
+use Rattle.answers.specs.declared.results.Told.TheVariants as told
 use Rattle.answers.specs.Results.{result_at}
 use Rattle.answers.specs.Answers.{read_answer}
 
@@ -49,9 +48,9 @@ pub record Parts : Type 0 where
 abbrev pub parts_in : ℕ → Parts
 parts_in sum = record { number = number_in sum; count = count_in sum; place = length_in sum }
 
-unfoldable pub read_parts : Answered → Parts
-read_parts (Read s) = record { number = 0; count = s.count; place = s.first }
-read_parts (Bad place) = record { number = 1; count = 0; place = place }
+unfoldable pub read_parts : Result Summary ℕ → Parts
+read_parts (Ok s) = record { number = 0; count = s.count; place = s.first }
+read_parts (Err place) = record { number = 1; count = 0; place = place }
 
 unfoldable pub answer_parts : ℕ → List ℕ → Parts
 answer_parts format answer =
@@ -86,10 +85,10 @@ shown word count place = record { word = word; data_length = count; place = plac
 abbrev pub shown_in : ℕ → Shown
 shown_in sum = shown (word_in sum) (data_length_in sum) (data_in sum)
 
-unfoldable pub told_parts : Told → Shown
-told_parts (Result word from count) = shown word count from
-told_parts (BadFormat code) = shown code 0 0
-told_parts End = shown 0 0 0
+unfoldable pub told_parts : Option Told → Shown
+told_parts (Some (told.Result word from count)) = shown word count from
+told_parts (Some (told.BadFormat code)) = shown code 0 0
+told_parts None = shown 0 0 0
 
 unfoldable pub result_parts : ℕ → List ℕ → ℕ → Shown
 result_parts format answer place =

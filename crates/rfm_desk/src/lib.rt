@@ -5,8 +5,8 @@ ghost use Rattle.std.specs.Prelude.{◌≡◌, ◌<◌, ◌^◌};
 ghost use Rattle.operations.specs.Builds.{build};
 ghost use Rattle.rfm_desk.specs.Packed as spec;
 
+use answers::read_answer;
 use answers::results::{Told, result_at};
-use answers::{Answered, read_answer};
 use boundary::packed;
 
 // The bytes of an answer that is read at most.
@@ -24,20 +24,21 @@ pub extern "C" fn rfm_build(format: u8, operations: &[u8], data: &[u8], script: 
 
 // Returns in one number whether an answer could be read, its count, and the place of its first result or of its first bad byte.
 #[unsafe(no_mangle)]
+#[tactic(auto, unfolding(answers::specs::Promised::AnsweredFits))]
 pub extern "C" fn rfm_read_answer(format: u8, answer: &[u8]) -> u64
     ensures { (result ≡ spec.packed_parts (spec.answer_parts format answer.now)) × (spec.parts_in result ≡ spec.answer_parts format answer.now) }
 {
     if MOST_ANSWER < answer.len() {
         return packed(2, 0, 0);
     }
-    let answered = read_answer(format, answer);
-    match answered {
-        Answered::Read(s) => packed(0, s.count, s.first),
-        Answered::Bad(place) => packed(1, 0, place),
+    match read_answer(format, answer) {
+        Ok(s) => packed(0, s.count, s.first),
+        Err(place) => packed(1, 0, place),
     }
 }
 
 // Returns a word, the number of its data bytes and their place in one number.
+#[tactic(auto, unfolding(crate::specs::Packed::packed_shown))]
 fn packed_result(word: usize, count: usize, place: usize) -> u64
     requires { (word < 2 ^ 16) × (count < 2 ^ 16) × (place < 2 ^ 32) }
     ensures { result ≡ spec.packed_shown (spec.shown word count place) }
@@ -48,16 +49,16 @@ fn packed_result(word: usize, count: usize, place: usize) -> u64
 // Returns the result that stands at a place of an answer, in one number: its word, the number of its data bytes and their place; or the code
 // of a Bad format TLV; or 0 where no whole result stands there.
 #[unsafe(no_mangle)]
+#[tactic(auto, unfolding(answers::specs::Promised::ToldFits))]
 pub extern "C" fn rfm_result(format: u8, answer: &[u8], place: usize) -> u64
     ensures { (result ≡ spec.packed_shown (spec.result_parts format answer.now place)) × (spec.shown_in result ≡ spec.result_parts format answer.now place) }
 {
     if MOST_ANSWER < answer.len() {
         return packed_result(0, 0, 0);
     }
-    let told = result_at(format, answer, place, answer.len());
-    match told {
-        Told::Result(word, from, count) => packed_result(word, count, from),
-        Told::BadFormat(code) => packed_result(code, 0, 0),
-        Told::End => packed_result(0, 0, 0),
+    match result_at(format, answer, place, answer.len()) {
+        Some(Told::Result(word, from, count)) => packed_result(word, count, from),
+        Some(Told::BadFormat(code)) => packed_result(code, 0, 0),
+        None => packed_result(0, 0, 0),
     }
 }

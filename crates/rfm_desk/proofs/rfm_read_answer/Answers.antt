@@ -10,26 +10,21 @@ pub returns-then-answer-gt-MOST_ANSWER : goal.returns-then-answer-gt-MOST_ANSWER
 returns-then-answer-gt-MOST_ANSWER c =
     parts_cross _ _ _ (record { number = omega arith; count = omega arith; length = omega arith }) _ c.packed.ensures (too_long _ _ c.if-answer-gt-MOST_ANSWER.true)
 
-pub packed-requires-in-Read : goal.packed-requires-in-Read
+pub packed-requires-in-Ok : goal.packed-requires-in-Ok
 unfolding read_parts
-packed-requires-in-Read c =
-    read_fits _ _ c.if-answer-gt-MOST_ANSWER.false (subst (AnsweredFits _) c.in-Read.is c.read_answer-answered.ensures.1)
+packed-requires-in-Ok c =
+    read_fits _ _ c.if-answer-gt-MOST_ANSWER.false (subst (AnsweredFits _) c.in-Ok.is c.read_answer.ensures.1)
 
-pub packed-requires-in-Bad : goal.packed-requires-in-Bad
+pub returns-in-Ok : goal.returns-in-Ok
 unfolding read_parts
-packed-requires-in-Bad c =
-    read_fits _ _ c.if-answer-gt-MOST_ANSWER.false (subst (AnsweredFits _) c.in-Bad.is c.read_answer-answered.ensures.1)
-
-pub returns-in-Read : goal.returns-in-Read
-unfolding read_parts
-returns-in-Read c =
+returns-in-Ok c =
     let short = c.if-answer-gt-MOST_ANSWER.false in
-    parts_cross _ _ _ (read_fits _ _ short (subst (AnsweredFits _) c.in-Read.is c.read_answer-answered.ensures.1)) _ c.packed-in-Read.ensures
-    (is_read _ _ short (sym c.in-Read.is ∙ c.read_answer-answered.ensures.0))
+    parts_cross _ _ _ (read_fits _ _ short (subst (AnsweredFits _) c.in-Ok.is c.read_answer.ensures.1)) _ c.packed-in-Ok.ensures
+    (is_read _ _ short (sym c.in-Ok.is ∙ c.read_answer.ensures.0))
 
-pub returns-in-Bad : goal.returns-in-Bad
+pub returns-in-Err : goal.returns-in-Err
 unfolding read_parts
-returns-in-Bad c =
+returns-in-Err c =
     let short = c.if-answer-gt-MOST_ANSWER.false in
-    parts_cross _ _ _ (read_fits _ _ short (subst (AnsweredFits _) c.in-Bad.is c.read_answer-answered.ensures.1)) _ c.packed-in-Bad.ensures
-    (is_read _ _ short (sym c.in-Bad.is ∙ c.read_answer-answered.ensures.0))
+    parts_cross _ _ _ (read_fits _ _ short (subst (AnsweredFits _) c.in-Err.is c.read_answer.ensures.1)) _ c.packed-in-Err.ensures
+    (is_read _ _ short (sym c.in-Err.is ∙ c.read_answer.ensures.0))
