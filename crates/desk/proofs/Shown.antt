@@ -10,18 +10,17 @@ use Prim.Native.Nat.{ℕ, zero, suc, ◌+◌, ◌-◌, ◌*◌, ◌≤◌, ◌<�
 use native.Mathlib.Omega.{arith}
 use lib.Dec.{ltb, eqb}
 use lib.ListN.{length, length-append}
+use Rattle.std.specs.Prelude.{Option, Some, None, Result, Ok, Err}
 use Rattle.octets.specs.Choice.{pick}
 use Rattle.octets.specs.Bytes.{AllBytes, overwrite, part, bytes2}
 use Rattle.octets.proofs.Picks.{pick_true, on_pick}
 use Rattle.octets.proofs.Writes.{part_length, write-length, write-none}
-use Rattle.answers.specs.declared.words.Worded.{Worded}
-use Rattle.answers.specs.declared.words.Worded.TheVariants as worded
 use Rattle.answers.specs.declared.results.Told.{Told}
-use Rattle.answers.specs.declared.results.Told.TheVariants.{Result, BadFormat, End}
+use Rattle.answers.specs.declared.results.Told.TheVariants as results
 use Rattle.answers.specs.Results.{compact_told, compact_word, compact_at, piece_told, result_at}
 use Rattle.answers.specs.Told.{replied, told_from}
 use Rattle.answers.specs.Promised.{ToldFits}
-use Rattle.answers.proofs.Places.{past-bad}
+use Rattle.answers.proofs.Places.{past_bad}
 use Rattle.answers.proofs.Fits.{told-fits}
 use Rattle.lines.specs.Digits.{ascii, hex_of}
 use Rattle.lines.specs.Named.{named}
@@ -33,15 +32,15 @@ use Rattle.desk.specs.Reads.{reply_lines, all_lines, shown_lines, shown_next}
 
 -- ---- past the end of the answer no code stands
 
-unfoldable NoCode : Told → Type 0
-NoCode (Result word from count) = Unit
-NoCode (BadFormat code) = ⊥
-NoCode End = Unit
+unfoldable NoCode : Option Told → Type 0
+NoCode (Some (results.Result word from count)) = Unit
+NoCode (Some (results.BadFormat code)) = ⊥
+NoCode None = Unit
 
-compact_no_code : (end : ℕ) (w : Worded) → NoCode (compact_told end w)
+compact_no_code : (end : ℕ) (w : Result ℕ ℕ) → NoCode (compact_told end w)
 unfolding NoCode compact_told
-compact_no_code end (worded.Word word) = on_pick NoCode _ _ _ (λ fit. tt) (λ other. tt)
-compact_no_code end (worded.Bad place) = tt
+compact_no_code end (Ok word) = on_pick NoCode _ _ _ (λ fit. tt) (λ other. tt)
+compact_no_code end (Err place) = tt
 
 past_no_code : (format : ℕ) (answer : List ℕ) (at end : ℕ) → length answer ≤ at → NoCode (result_at format answer at end)
 unfolding NoCode result_at compact_at piece_told
@@ -49,9 +48,9 @@ past_no_code format answer at end past =
     on_pick NoCode (ltb (length answer) end) _ _ (λ outside. tt)
     (λ inside. on_pick NoCode (eqb format 0) _ _
     (λ compact. on_pick NoCode (eqb at compact_word) _ _ (λ here. compact_no_code end _) (λ other. tt))
-    (λ other. on_pick NoCode (eqb format 1) _ _ (λ expanded. rw (past-bad answer at true end past) tt) (λ none. tt)))
+    (λ other. on_pick NoCode (eqb format 1) _ _ (λ expanded. rw (past_bad answer at true end past) tt) (λ none. tt)))
 
-past-code : (format : ℕ) (answer : List ℕ) (at end code : ℕ) → length answer ≤ at → result_at format answer at end ≡ BadFormat code → ⊥
+past-code : (format : ℕ) (answer : List ℕ) (at end code : ℕ) → length answer ≤ at → result_at format answer at end ≡ Some (results.BadFormat code) → ⊥
 unfolding NoCode
 past-code format answer at end code past is = rw is at (past_no_code format answer at end past)
 
@@ -62,13 +61,13 @@ unfolding reply_lines named ascii bytes2 hex_of
 reply_length word d = simp (length-append, hex-length) (omega arith)
 
 shown_to :
-    (answer : List ℕ) (at : ℕ) (s : Shown) (t : Told) → ToldFits (length answer) at t
+    (answer : List ℕ) (at : ℕ) (s : Shown) (t : Option Told) → ToldFits (length answer) at t
     → (shown_next t s).to ≡ s.to + length (shown_lines t answer)
 unfolding ToldFits shown_lines shown_next reply_lines named ascii hex_of
-shown_to answer at s (Result word from count) fits =
+shown_to answer at s (Some (results.Result word from count)) fits =
     omega (arith, reply_length word (part answer from count), part_length answer from count fits.inside)
-shown_to answer at s (BadFormat code) fits = refl
-shown_to answer at s End fits = omega arith
+shown_to answer at s (Some (results.BadFormat code)) fits = refl
+shown_to answer at s None fits = omega arith
 
 -- ---- a printing on its way
 
@@ -80,30 +79,30 @@ pub record Bounded (size : ℕ) (s : Shown) : Type 0 where
   pub printed : s.going ≡ true → s.to ≤ 27 + 5 * s.place
 
 bounded :
-    (size : ℕ) (s : Shown) (t : Told) → size ≤ longest_answer → s.going ≡ true → Bounded size s → ToldFits size s.place t
+    (size : ℕ) (s : Shown) (t : Option Told) → size ≤ longest_answer → s.going ≡ true → Bounded size s → ToldFits size s.place t
     → Bounded size (shown_next t s)
 unfolding ToldFits shown_next
-bounded size s (Result word from count) short on b fits =
+bounded size s (Some (results.Result word from count)) short on b fits =
     let h = b.printed on in
     record {
       placed = omega (arith, fits.inside);
       few = omega (arith, fits.further, fits.inside);
       printed = λ goes. omega (arith, fits.further);
     }
-bounded size s (BadFormat code) short on b fits =
+bounded size s (Some (results.BadFormat code)) short on b fits =
     let h = b.printed on in
     record { placed = b.placed; few = omega (arith, b.placed); printed = λ goes. absurd (false≢true goes) }
-bounded size s End short on b fits = record { placed = b.placed; few = b.few; printed = λ goes. absurd (false≢true goes) }
+bounded size s None short on b fits = record { placed = b.placed; few = b.few; printed = λ goes. absurd (false≢true goes) }
 
 -- how many bytes a printing that goes on may still pass
 abbrev pub left : ℕ → Shown → ℕ
 left size s = pick s.going (size + 3 - s.place) 0
 
-fewer : (size : ℕ) (s : Shown) (t : Told) → s.place ≤ size + 2 → ToldFits size s.place t → left size (shown_next t s) < size + 3 - s.place
+fewer : (size : ℕ) (s : Shown) (t : Option Told) → s.place ≤ size + 2 → ToldFits size s.place t → left size (shown_next t s) < size + 3 - s.place
 unfolding ToldFits shown_next pick
-fewer size s (Result word from count) placed fits = omega (arith, fits.further)
-fewer size s (BadFormat code) placed fits = omega arith
-fewer size s End placed fits = omega arith
+fewer size s (Some (results.Result word from count)) placed fits = omega (arith, fits.further)
+fewer size s (Some (results.BadFormat code)) placed fits = omega arith
+fewer size s None placed fits = omega arith
 
 -- the lines of the results that are left, of which there are `n` at most
 abbrev left_lines : ℕ → ℕ → List ℕ → ℕ → Shown → List ℕ
@@ -111,18 +110,18 @@ left_lines n format answer end s = pick s.going (all_lines (told_from n format a
 
 -- the lines of a result, and of those behind it
 behind_it :
-    (format : ℕ) (answer : List ℕ) (end n : ℕ) (s : Shown) (t : Told) → result_at format answer s.place end ≡ t
+    (format : ℕ) (answer : List ℕ) (end n : ℕ) (s : Shown) (t : Option Told) → result_at format answer s.place end ≡ t
     → ToldFits (length answer) s.place t → length answer ≤ s.place + n
     → (m : ℕ) × ((shown_next t s).going ≡ true → length answer ≤ (shown_next t s).place + m)
     × (shown_lines t answer ++ left_lines m format answer end (shown_next t s) ≡ all_lines (told_from n format answer s.place end))
 unfolding ToldFits shown_lines shown_next pick all_lines told_from
-behind_it format answer end zero s (Result word from count) is fits enough = absurd (omega (arith, fits.further, fits.inside))
-behind_it format answer end zero s (BadFormat code) is fits enough =
+behind_it format answer end zero s (Some (results.Result word from count)) is fits enough = absurd (omega (arith, fits.further, fits.inside))
+behind_it format answer end zero s (Some (results.BadFormat code)) is fits enough =
     absurd (past-code format answer s.place end code (omega arith) is)
-behind_it format answer end zero s End is fits enough = (0, λ goes. absurd (false≢true goes), refl)
-behind_it format answer end (suc m) s (Result word from count) is fits enough = (m, λ goes. omega (arith, fits.further), rw (is, all_lines))
-behind_it format answer end (suc m) s (BadFormat code) is fits enough = (m, λ goes. absurd (false≢true goes), rw (is, all_lines))
-behind_it format answer end (suc m) s End is fits enough = (m, λ goes. absurd (false≢true goes), rw (is, all_lines))
+behind_it format answer end zero s None is fits enough = (0, λ goes. absurd (false≢true goes), refl)
+behind_it format answer end (suc m) s (Some (results.Result word from count)) is fits enough = (m, λ goes. omega (arith, fits.further), rw (is, all_lines))
+behind_it format answer end (suc m) s (Some (results.BadFormat code)) is fits enough = (m, λ goes. absurd (false≢true goes), rw (is, all_lines))
+behind_it format answer end (suc m) s None is fits enough = (m, λ goes. absurd (false≢true goes), rw (is, all_lines))
 
 -- where a printing is, what was printed of the whole, and what is left of it, with a count that is large enough
 pub record Showing (format : ℕ) (answer : List ℕ) (end : ℕ) (whole out₀ : List ℕ) (to : ℕ) (out : List ℕ) (s : Shown) : Type 0 where

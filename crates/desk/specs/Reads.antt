@@ -1,9 +1,8 @@
 -- What `./rfm read` prints.
-use Rattle.std.specs.Prelude.{ℕ, ◌+◌, ◌*◌, ◌-◌, ◌≤◌, ◌≡◌, true, false, List, [], ◌∷◌, ◌++◌, length, ltb}
+use Rattle.std.specs.Prelude.{ℕ, ◌+◌, ◌*◌, ◌-◌, ◌≤◌, ◌≡◌, true, false, List, [], ◌∷◌, ◌++◌, length, ltb, Option, Some, None, Result, Ok, Err}
 use Rattle.octets.specs.Choice.{pick}
 use Rattle.octets.specs.Bytes.{bytes2, part}
-use Rattle.answers.specs.declared.Answered.{Answered}
-use Rattle.answers.specs.declared.Answered.TheVariants as answered
+use Rattle.answers.specs.declared.Summary.{Summary}
 use Rattle.answers.specs.declared.results.Told.{Told}
 use Rattle.answers.specs.declared.results.Told.TheVariants as results
 use Rattle.answers.specs.Told.{Reply, replied, bad_format, told_from}
@@ -31,15 +30,15 @@ all_lines [] = []
 all_lines (r ∷ rs) = reply_lines r ++ all_lines rs
 
 -- one result where the printing is: its lines, and how the printing goes on
-unfoldable pub shown_lines : Told → List ℕ → List ℕ
-shown_lines (results.Result word from count) answer = reply_lines (replied word (part answer from count))
-shown_lines (results.BadFormat code) answer = reply_lines (bad_format code)
-shown_lines results.End answer = []
+unfoldable pub shown_lines : Option Told → List ℕ → List ℕ
+shown_lines (Some (results.Result word from count)) answer = reply_lines (replied word (part answer from count))
+shown_lines (Some (results.BadFormat code)) answer = reply_lines (bad_format code)
+shown_lines None answer = []
 
-unfoldable pub shown_next : Told → Shown → Shown
-shown_next (results.Result word from count) s = record { place = from + count + 2; to = s.to + 2 * count + 18; going = true }
-shown_next (results.BadFormat code) s = record { place = s.place; to = s.to + 8; going = false }
-shown_next results.End s = record { place = s.place; to = s.to; going = false }
+unfoldable pub shown_next : Option Told → Shown → Shown
+shown_next (Some (results.Result word from count)) s = record { place = from + count + 2; to = s.to + 2 * count + 18; going = true }
+shown_next (Some (results.BadFormat code)) s = record { place = s.place; to = s.to + 8; going = false }
+shown_next None s = record { place = s.place; to = s.to; going = false }
 
 -- what is printed of a good answer
 unfoldable pub read_lines : ℕ → List ℕ → ℕ → ℕ → ℕ → List ℕ
@@ -47,9 +46,9 @@ read_lines format answer count first end =
     named (ascii "count=") (decimal count) line_feed ++ all_lines (told_from (length answer) format answer first end)
 
 -- what is printed of an answer; of a damaged one its place alone
-unfoldable pub answered_lines : ℕ → List ℕ → Answered → List ℕ
-answered_lines format answer (answered.Read s) = read_lines format answer s.count s.first s.end
-answered_lines format answer (answered.Bad place) = named (ascii "place=") (decimal place) line_feed
+unfoldable pub answered_lines : ℕ → List ℕ → Result Summary ℕ → List ℕ
+answered_lines format answer (Ok s) = read_lines format answer s.count s.first s.end
+answered_lines format answer (Err place) = named (ascii "place=") (decimal place) line_feed
 
 -- the digits of the answer in the second line's value
 unfoldable pub digits_in : List ℕ → Value → Value

@@ -8,8 +8,8 @@ ghost use Rattle.desk.specs.Reads as spec;
 ghost use Rattle.desk.specs.Promised.{longest_answer, most_told, ShowAsks, ShownFits};
 
 use crate::builds::put_bad_line;
+use answers::read_answer;
 use answers::results::{Told, result_at};
-use answers::{Answered, read_answer};
 use lines::digits::{decode, is_hex};
 use lines::put::{put_bytes, put_number};
 use lines::values::{Field, Value, number_at, value_at};
@@ -83,10 +83,9 @@ fn show_next(format: u8, answer: &[u8], end: usize, out: &mut [u8], s: Shown) ->
 {
     let place = s.place;
     let to = s.to;
-    let told = result_at(format, answer, place, end);
-    match told {
-        Told::Result(word, from, count) => show_result(answer, word, from, count, out, to),
-        Told::BadFormat(code) => {
+    match result_at(format, answer, place, end) {
+        Some(Told::Result(word, from, count)) => show_result(answer, word, from, count, out, to),
+        Some(Told::BadFormat(code)) => {
             let next = put_code(code, out, to);
             Shown {
                 place,
@@ -94,7 +93,7 @@ fn show_next(format: u8, answer: &[u8], end: usize, out: &mut [u8], s: Shown) ->
                 going: false,
             }
         }
-        Told::End => Shown {
+        None => Shown {
             place,
             to,
             going: false,
@@ -147,10 +146,9 @@ fn put_answered(format: u8, answer: &[u8], out: &mut [u8]) -> usize
     requires { (length answer.now ≤ longest_answer) × (most_told ≤ length out.old) }
     ensures { (out.new ≡ overwrite out.old 0 (spec.answered_lines format answer.now (read_answer format answer.now))) × (result ≡ length (spec.answered_lines format answer.now (read_answer format answer.now))) × (result ≤ most_told) }
 {
-    let answered = read_answer(format, answer);
-    match answered {
-        Answered::Read(s) => put_read(format, answer, s.count, s.first, s.end, out),
-        Answered::Bad(place) => put_number(out, 0, b"place=", place, b'\n'),
+    match read_answer(format, answer) {
+        Ok(s) => put_read(format, answer, s.count, s.first, s.end, out),
+        Err(place) => put_number(out, 0, b"place=", place, b'\n'),
     }
 }
 

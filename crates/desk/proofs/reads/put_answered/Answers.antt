@@ -10,17 +10,17 @@ use Rattle.desk.proofs.reads.put_answered.Goals as goal
 pub put_read-requires : goal.put_read-requires
 unfolding AnsweredFits
 put_read-requires c =
-    let fits = rw c.in-Read.is at c.read_answer-answered.ensures.1 in
+    let fits = rw c.in-Ok.is at c.read_answer.ensures.1 in
     let asks = c.requires in
     (omega (arith, fits.first, fits.end), asks.0, asks.1)
 
-pub returns-in-Read : goal.returns-in-Read
+pub returns-in-Ok : goal.returns-in-Ok
 unfolding answered_lines
-returns-in-Read c =
-    rw (sym c.read_answer-answered.ensures.0 ∙ c.in-Read.is) c.put_read.ensures
+returns-in-Ok c =
+    rw (sym c.read_answer.ensures.0 ∙ c.in-Ok.is) c.put_read.ensures
 
-pub returns-in-Bad : goal.returns-in-Bad
+pub returns-in-Err : goal.returns-in-Err
 unfolding answered_lines ascii
-returns-in-Bad c =
+returns-in-Err c =
     let p = c.put_number.ensures in
-    rw (sym c.read_answer-answered.ensures.0 ∙ c.in-Bad.is) (p.0, p.1 ∙ zero-add _, omega (arith, p.2))
+    rw (sym c.read_answer.ensures.0 ∙ c.in-Err.is) (p.0, p.1 ∙ zero-add _, omega (arith, p.2))

@@ -1,8 +1,9 @@
 -- `desk::reads::show_next` meets its contract: each way out is what the result that stands there comes to (`shown_lines`, `shown_next`).
 -- Assumes nothing.
-use mathlib.Core.Path.{refl, sym, ◌∙◌}
+use mathlib.Core.Path.{refl, sym, ap, ◌∙◌}
 use mathlib.Core.Bool.{false}
 use native.Mathlib.Omega.{arith}
+use Rattle.std.specs.Prelude.{Some}
 use Rattle.octets.proofs.Writes.{write-none}
 use Rattle.answers.specs.Promised.{ToldFits}
 use Rattle.desk.specs.Reads.{shown_lines, shown_next}
@@ -11,31 +12,31 @@ use Rattle.desk.proofs.reads.show_next.Goals as goal
 pub show_result-requires : goal.show_result-requires
 unfolding ToldFits
 show_result-requires c =
-    let fits = rw c.in-Result.is at c.result_at-told.ensures.1 in
+    let fits = rw (c.in-Some-Result.is ∙ ap Some c.in-Some-Result.field-0-is) at c.result_at.ensures.1 in
     let asks = c.requires in
     record { small = fits.small; inside = fits.inside; room = omega (arith, fits.further, fits.inside, asks.short, asks.printed, asks.room) }
 
 pub put_code-next-requires : goal.put_code-next-requires
 unfolding ToldFits
 put_code-next-requires c =
-    let few = rw c.in-BadFormat.is at c.result_at-told.ensures.1 in
+    let few = rw (c.in-Some-BadFormat.is ∙ ap Some c.in-Some-BadFormat.field-0-is) at c.result_at.ensures.1 in
     let asks = c.requires in
     (omega arith, omega (arith, asks.short, asks.placed, asks.printed, asks.room))
 
-pub returns-in-Result : goal.returns-in-Result
+pub returns-in-Some-Result : goal.returns-in-Some-Result
 unfolding shown_lines shown_next
-returns-in-Result c =
-    rw (sym c.result_at-told.ensures.0 ∙ c.in-Result.is) c.show_result.ensures
+returns-in-Some-Result c =
+    rw (sym c.result_at.ensures.0 ∙ (c.in-Some-Result.is ∙ ap Some c.in-Some-Result.field-0-is)) c.show_result.ensures
 
-pub returns-in-BadFormat : goal.returns-in-BadFormat
+pub returns-in-Some-BadFormat : goal.returns-in-Some-BadFormat
 unfolding shown_lines shown_next
-returns-in-BadFormat c =
+returns-in-Some-BadFormat c =
     let place = c.args.s.place in
     let p = c.put_code-next.ensures in
-    rw (sym c.result_at-told.ensures.0 ∙ c.in-BadFormat.is)
+    rw (sym c.result_at.ensures.0 ∙ (c.in-Some-BadFormat.is ∙ ap Some c.in-Some-BadFormat.field-0-is))
     (p.0, λ i. record { place = place; to = p.1 i; going = false })
 
-pub returns-in-End : goal.returns-in-End
+pub returns-in-None : goal.returns-in-None
 unfolding shown_lines shown_next
-returns-in-End c =
-    rw (sym c.result_at-told.ensures.0 ∙ c.in-End.is) (sym (write-none _ _), refl)
+returns-in-None c =
+    rw (sym c.result_at.ensures.0 ∙ c.in-None.is) (sym (write-none _ _), refl)
