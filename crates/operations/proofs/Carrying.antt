@@ -1,20 +1,25 @@
 -- The first operation that is not carried, one operation after the other; and what an operation that is carried promises. Assumes nothing.
 use mathlib.Core.Path.{◌≡◌, refl, sym, ap, ◌∙◌}
-use mathlib.Core.Bool.{Bool, true, false, not, ◌&&◌, ◌||◌, and-true, and-false, false≢true}
+use mathlib.Core.Bool.{Bool, true, false, not, ◌&&◌, ◌||◌, and-false, false≢true}
 use mathlib.Core.List.{List, ◌∷◌}
 use mathlib.Core.Logic.{⊎_elim}
-use Prim.Native.Nat.{ℕ, ◌+◌, ◌%◌, ◌≤◌, ◌<◌}
+use Prim.Native.Nat.{ℕ, ◌+◌, ◌≤◌, ◌<◌}
 use native.Mathlib.Omega.{arith}
 use lib.Dec.{leb, ltb, eqb}
 use lib.ListN.{length}
-use borrow.Author.Tests.{leb-true, ltb-false, eqb-true, ne_eqb, lt-leb}
+use borrow.Author.Tests.{leb-true, ltb-false, eqb-true, eqb-false, ne_eqb, lt-leb}
+use Rattle.std.specs.Prelude.{Result, Ok, Err}
 use Rattle.octets.specs.Choice.{pick}
 use Rattle.octets.proofs.Picks.{and_left, and_right, or_either, either, on_pick, told-true, told-false}
+use Rattle.command.specs.declared.Format.{Format}
+use Rattle.command.specs.declared.Format.TheVariants.{Compact, Expanded}
+use Rattle.operations.specs.declared.Refusal.{Refusal}
+use Rattle.operations.specs.declared.Refusal.TheVariants.{NotCarried}
 use Rattle.operations.specs.declared.rows.Operation.{Operation}
 use Rattle.operations.specs.Rows.{select, increase, search, next, previous, absolute, forward, backward}
 use Rattle.operations.specs.Rows.{is_read, is_binary, is_record, operation_at, operations_in, operations_of, is_list}
 use Rattle.operations.specs.Carried.{most_in_byte, most_offset, longest_path}
-use Rattle.operations.specs.Carried.{is_format, mode_fits, bytes_fit, is_carried, is_none, first_not_carried}
+use Rattle.operations.specs.Carried.{is_format, number_of, format_of, mode_fits, bytes_fit, is_carried, is_none, first_not_carried}
 use Rattle.operations.specs.Scripts.{p1_of, p2_of}
 use Rattle.operations.specs.Sizes.{Carried}
 use Rattle.operations.proofs.Left.{left, some, all_left, none_left, one_left, last-left}
@@ -52,30 +57,51 @@ module _ (format size : ℕ) (list : List ℕ) (n i : ℕ) where
 on_or : {P : Type 0} (a b : Bool) → (a || b) ≡ true → (a ≡ true → P) → (b ≡ true → P) → P
 on_or a b h f g = ⊎_elim f g (or_either a b h)
 
--- an operation of a known kind: one that brings bytes, one that reads, and none
-module _ (format size : ℕ) (last : Bool) (o : Operation) (k : ℕ) (known : is_format format ≡ true) (kind : o.kind ≡ k) {m b : Bool}
-    (modes : m ≡ mode_fits k o.mode o.number) (bytes : b ≡ bytes_fit size k o.from o.count) where
-  pub brings_carried : is_read k ≡ false → (m && b) ≡ is_carried format size last o
-  unfolding is_carried
-  brings_carried n = rw (known, kind, ← modes, ← bytes, n, and-true)
+-- an operation of a known kind that reads, and one of no kind
+known : (format : Format) → is_format (number_of format) ≡ true
+known Compact = refl
+known Expanded = refl
 
-  pub reads-carried : is_read k ≡ true → {w : Bool} → w ≡ (b && (last || eqb format 1)) → (m && w) ≡ is_carried format size last o
-  unfolding is_carried
-  reads-carried y e = rw (e, known, kind, ← modes, ← bytes, y)
+pub reads-carried : (format : Format) (size : ℕ) (last : Bool) (o : Operation) (k : ℕ) → o.kind ≡ k → is_read k ≡ true → {m b w : Bool}
+    → m ≡ mode_fits k o.mode o.number → b ≡ bytes_fit size k o.from o.count → w ≡ (b && (last || eqb (number_of format) 1))
+    → (m && w) ≡ is_carried (number_of format) size last o
+unfolding is_carried
+reads-carried format size last o k kind reads modes bytes e = rw (e, known format, kind, ← modes, ← bytes, reads)
 
-pub none-carried : (format size : ℕ) (last : Bool) (o : Operation)
+pub none_carried : (format size : ℕ) (last : Bool) (o : Operation)
     → (o.kind ≡ 1 → ⊥) → (o.kind ≡ 2 → ⊥) → (o.kind ≡ 3 → ⊥) → (o.kind ≡ 4 → ⊥) → (o.kind ≡ 5 → ⊥) → (o.kind ≡ 6 → ⊥) → (o.kind ≡ 7 → ⊥)
     → false ≡ is_carried format size last o
 unfolding is_carried mode_fits pick
-none-carried format size last o n1 n2 n3 n4 n5 n6 n7 =
+none_carried format size last o n1 n2 n3 n4 n5 n6 n7 =
     rw (ne_eqb o.kind 1 n1, ne_eqb o.kind 2 n2, ne_eqb o.kind 3 n3, ne_eqb o.kind 4 n4, ne_eqb o.kind 5 n5, ne_eqb o.kind 6 n6, ne_eqb o.kind 7 n7, and-false)
 
+-- the number of a format is 0 or 1, and none has another
+FormatFits : ℕ → Result Format Refusal → Type 0
+FormatFits number (Ok format) = number_of format ≡ number
+FormatFits number (Err refusal) = (refusal ≡ NotCarried 1) × (1 < number)
+
+format_fits : (number : ℕ) → FormatFits number (format_of number)
+unfolding FormatFits format_of
+format_fits number =
+    on_pick (FormatFits number) (eqb number 0) _ _ (λ e. sym (eqb-true number 0 e))
+    (λ n. on_pick (FormatFits number) (eqb number 1) _ _ (λ e. sym (eqb-true number 1 e))
+    (λ m. (refl, omega (arith, eqb-false number 0 n, eqb-false number 1 m))))
+
+pub number_back : (number : ℕ) {format : Format} → Ok format ≡ format_of number → number_of format ≡ number
+unfolding FormatFits
+number_back number e = rw (sym e) at (format_fits number)
+
 -- no operation is carried by another format, so a list's first is at fault
-pub no_format : (format size : ℕ) (list : List ℕ) → is_list (length list) ≡ true → 1 < format → 1 ≡ first_not_carried format size 1 (operations_of list)
-unfolding is_carried
-no_format format size list is other =
-    stops_here format size list (operations_in (length list)) 0 (some (length list) is) refl {b = false} (rw (lt-leb format 1 other)) refl
-    ∙ ap (first_not_carried format size 1) (all_left list _ refl)
+
+pub no_format : (format size : ℕ) (list : List ℕ) → is_list (length list) ≡ true → {refusal : Refusal} → Err refusal ≡ format_of format
+    → (refusal ≡ NotCarried 1) × (1 ≡ first_not_carried format size 1 (operations_of list))
+unfolding FormatFits is_carried
+no_format format size list is none =
+    let other = rw (sym none) at (format_fits format) in (
+      other.0,
+      stops_here format size list (operations_in (length list)) 0 (some (length list) is) refl {b = false} (rw (lt-leb format 1 other.1)) refl
+          ∙ ap (first_not_carried format size 1) (all_left list _ refl),
+    )
 
 -- what a mode and a number that fit promise: the mode is small, no offset passes the number, and no byte where it is none
 record ModeFits (kind mode number : ℕ) : Type 0 where

@@ -20,17 +20,17 @@ pub record Within (low high n : ℕ) : Type 0 where
   pub most : n ≤ high
 
 module _ (o : Operation) where
-  pub compact-within : Within header_size (header_size + o.count) (compact_size o)
+  pub compact_within : Within header_size (header_size + o.count) (compact_size o)
   unfolding compact_size
-  compact-within =
+  compact_within =
       on_pick (Within header_size (header_size + o.count)) (is_read o.kind) _ _
       (λ read. record { least = omega arith; most = omega arith })
       (λ other. record { least = omega arith; most = omega arith })
 
-  pub capdu-within : Within header_size (header_size + o.count + 1) (capdu_size o)
+  pub capdu_within : Within header_size (header_size + o.count + 1) (capdu_size o)
   unfolding capdu_size
-  capdu-within =
-      let c = compact-within in
+  capdu_within =
+      let c = compact_within in
       on_pick (Within header_size (header_size + o.count + 1)) (has_le o.kind) _ _
       (λ le. record { least = omega arith; most = omega arith })
       (λ none. record { least = omega arith; most = omega arith })
@@ -42,11 +42,11 @@ tlv_within n =
     let f = length-few n in
     record { least = omega arith; most = omega arith }
 
-pub written-within : (format : ℕ) (o : Operation) → Within header_size (header_size + o.count + 5) (written_size format o)
+pub written_within : (format : ℕ) (o : Operation) → Within header_size (header_size + o.count + 5) (written_size format o)
 unfolding written_size
-written-within format o =
-    let c = compact-within o in
-    let d = capdu-within o in
+written_within format o =
+    let c = compact_within o in
+    let d = capdu_within o in
     let t = tlv_within (capdu_size o) in
     on_pick (Within header_size (header_size + o.count + 5)) (eqb format 0) _ _
     (λ compact. record { least = omega arith; most = omega arith })
@@ -70,4 +70,4 @@ size-some format list h =
     let one = some (length list) h in
     let whole = ap (all_size format) (all_left list n refl) in
     let first = size-goes_on format list n 0 (omega arith) refl refl in
-    omega (arith, written-within format (operation_at list 0))
+    omega (arith, written_within format (operation_at list 0))

@@ -17,7 +17,6 @@ use Rattle.operations.proofs.Scripted.{written-length, all-length}
 
 -- the operations from i on are carried, they have room at the place, and with them written there all are
 pub record ToWrite (format : ℕ) (list d m₀ : List ℕ) (at n : ℕ) (m : List ℕ) (place i : ℕ) : Type 0 where
-  pub within : i ≤ n
   pub same : length m ≡ length m₀
   pub carried : first_not_carried format (length d) (i + 1) (left list n i) ≡ 0
   pub room : place + all_size format (left list n i) ≤ length m₀
@@ -29,7 +28,6 @@ module _ {format : ℕ} {list d m₀ : List ℕ} {at n : ℕ} where
   starts e carried room =
       let l = all_left list n e in
       record {
-        within = omega arith;
         same = refl;
         carried = rw l carried;
         room = rw l room;
@@ -66,7 +64,6 @@ module _ {format : ℕ} {list d m₀ : List ℕ} {at n : ℕ} where
           let f = fits in
           let s = going.same in
           record {
-            within = omega arith;
             same = ap length written ∙ write-length m place (written_as format d o) (omega arith) ∙ s;
             carried = others;
             room = omega arith;

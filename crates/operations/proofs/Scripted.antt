@@ -14,25 +14,28 @@ use Rattle.octets.specs.Bytes.{part, overwrite}
 use Rattle.octets.proofs.Picks.{pick_true, pick-false, eq_yes, eq_no, on_pick, either}
 use Rattle.octets.proofs.Writes.{part-lent, part_length}
 use Rattle.tlv.specs.Lengths.{length_bytes}
+use Rattle.step.specs.Limits.{longest_script}
 use Rattle.command.specs.Instructions.{class_of}
 use Rattle.expanded.proofs.Written.{after}
 use Rattle.operations.specs.declared.rows.Operation.{Operation}
-use Rattle.operations.specs.Rows.{is_read}
+use Rattle.operations.specs.Rows.{is_read, operations_of}
 use Rattle.operations.specs.Carried.{first_not_carried}
 use Rattle.operations.specs.Scripts.{instruction_of, p1_of, p2_of, header_of, bytes_of, has_le, le_of, compact_of, capdu_of, tlv_of}
 use Rattle.operations.specs.Scripts.{written_as, all_written, templated, script_of}
-use Rattle.operations.specs.Sizes.{Carried, header_size, compact_size, capdu_size, tlv_size, written_size, all_size, script_size}
+use Rattle.operations.specs.Sizes.{Carried, Writable, header_size, compact_size, capdu_size, tlv_size, written_size, all_size, script_size}
 use Rattle.operations.proofs.Carrying.{first-carried, others-carried}
+use Rattle.operations.proofs.Counted.{size-some}
 
 -- a header
 pub class-byte : (i : ℕ) → class_of i < 256
 unfolding class_of
 class-byte i = on_pick (λ (n : ℕ). n < 256) _ _ _ (λ _. omega arith) (λ _. omega arith)
 
-pub header_is : (o : Operation) {class i p1 p2 : ℕ} → class ≡ class_of i → i ≡ instruction_of o.kind → p1 ≡ p1_of o → p2 ≡ p2_of o
-    → class ∷ i ∷ p1 ∷ p2 ∷ o.count ∷ [] ≡ header_of o
+pub header-written : (m : List ℕ) (at : ℕ) (o : Operation) {class i p1 p2 : ℕ} {w : List ℕ}
+    → class ≡ class_of i → i ≡ instruction_of o.kind → p1 ≡ p1_of o → p2 ≡ p2_of o
+    → w ≡ overwrite m at (class ∷ i ∷ p1 ∷ p2 ∷ o.count ∷ []) → w ≡ overwrite m at (header_of o)
 unfolding header_of
-header_is o hc hi h1 h2 = rw (hc, hi, h1, h2)
+header-written m at o hc hi h1 h2 written = written ∙ rw (hc, hi, h1, h2)
 
 header_length : (o : Operation) → length (header_of o) ≡ header_size
 unfolding header_of
@@ -191,11 +194,23 @@ module _ (format : ℕ) (d : List ℕ) (os : List Operation) where
   template-script e h =
       eq_no format 0 _ e (ap (λ (k : ℕ). 0xAA ∷ (length_bytes k ++ all_written format d os)) (sym (all-length format 0 d os h)))
 
-module _ (format n : ℕ) where
-  pub compact_size_lem : format ≡ 0 → n ≡ script_size format n
+-- what the writer of a script is asked for gives it room: for the operations alone, or for their template
+module _ {format size : ℕ} {rows d memory : List ℕ} (asks : Writable format size rows d memory) where
+  compact_size_lem : format ≡ 0 → size ≡ script_size format size
   unfolding script_size
   compact_size_lem e = eq_yes format 0 _ e refl
 
-  pub template-size : (format ≡ 0 → ⊥) → 1 + length (length_bytes n) + n ≡ script_size format n
+  pub compact_room : format ≡ 0 → all_size format (operations_of rows) ≤ length memory
+  compact_room e = omega (arith, asks.sized, asks.room, compact_size_lem e)
+
+  template-size : format ≡ 1 → 1 + length (length_bytes size) + size ≡ script_size format size
   unfolding script_size tlv_size
-  template-size e = eq_no format 0 _ e refl
+  template-size e = eq_no format 0 _ (λ none. omega arith) refl
+
+  pub template_room : format ≡ 1
+      → (5 ≤ size) × (1 + length (length_bytes size) + size ≤ length memory) × (1 + length (length_bytes size) + size ≤ longest_script)
+  template_room e = (
+    omega (arith, asks.sized, size-some format rows asks.list),
+    omega (arith, asks.room, template-size e),
+    omega (arith, asks.short, template-size e),
+  )

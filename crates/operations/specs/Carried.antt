@@ -1,12 +1,23 @@
 -- "one that the format can't carry (a read that isn't last in compact)", and what no command has room for.
-use Rattle.std.specs.Prelude.{ℕ, ◌+◌, ◌%◌, Bool, true, false, not, ◌&&◌, ◌||◌, List, [], ◌∷◌, leb, ltb, eqb}
+use Rattle.std.specs.Prelude.{ℕ, ◌+◌, ◌%◌, Bool, true, false, not, ◌&&◌, ◌||◌, List, [], ◌∷◌, leb, ltb, eqb, Result, Ok, Err}
 use Rattle.octets.specs.Choice.{pick}
+use Rattle.command.specs.declared.Format.{Format}
+use Rattle.command.specs.declared.Format.TheVariants.{Compact, Expanded}
 use Rattle.operations.specs.declared.rows.Operation.{Operation}
+use Rattle.operations.specs.declared.Refusal.{Refusal}
+use Rattle.operations.specs.declared.Refusal.TheVariants.{NotCarried}
 use Rattle.operations.specs.Rows.{select, increase, search, next, previous, absolute, forward, backward, is_read, is_binary, is_record}
 
 -- "a compact or expanded script": format 0 or 1
 abbrev pub is_format : ℕ → Bool
 is_format format = leb format 1
+
+abbrev pub number_of : Format → ℕ
+number_of Compact = 0
+number_of Expanded = 1
+
+unfoldable pub format_of : ℕ → Result Format Refusal
+format_of number = pick (eqb number 0) (Ok Compact) (pick (eqb number 1) (Ok Expanded) (Err (NotCarried 1)))
 
 -- the largest number that a byte of a command holds, and the largest offset: "P1 above 7F" is none
 abbrev pub most_in_byte : ℕ

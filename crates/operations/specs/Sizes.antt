@@ -1,11 +1,12 @@
 -- How many bytes a script has, said of its operations before anything is written; and what an operation that is carried promises to the
 -- writer.
-use Rattle.std.specs.Prelude.{ℕ, ◌+◌, ◌*◌, ◌≤◌, ◌<◌, ◌≡◌, true, false, List, [], ◌∷◌, length, eqb}
+use Rattle.std.specs.Prelude.{ℕ, ◌+◌, ◌*◌, ◌≤◌, ◌<◌, ◌≡◌, true, false, List, [], ◌∷◌, length, eqb, Result, Ok, Err}
 use Rattle.octets.specs.Choice.{pick}
 use Rattle.tlv.specs.Lengths.{length_bytes}
 use Rattle.step.specs.Limits.{longest_script}
 use Rattle.operations.specs.declared.rows.Operation.{Operation}
-use Rattle.operations.specs.declared.carried.Measured.{Measured}
+use Rattle.operations.specs.declared.Refusal.{Refusal}
+use Rattle.operations.specs.declared.Refusal.TheVariants.{NotAList, NotCarried, TooLong, NoRoom}
 use Rattle.operations.specs.Rows.{most_operations, is_read, is_list, operations_of}
 use Rattle.operations.specs.Carried.{first_not_carried}
 use Rattle.operations.specs.Scripts.{p1_of, p2_of, has_le}
@@ -39,12 +40,15 @@ all_size format (o ∷ os) = written_size format o + all_size format os
 unfoldable pub script_size : ℕ → ℕ → ℕ
 script_size format n = pick (eqb format 0) n (tlv_size n)
 
--- what measuring a list beside `size` bytes of data gives: the first operation that is not carried, and where there is none the bytes of all
-pub record Measures (format size : ℕ) (os : List Operation) (m : Measured) : Type 0 where
-  pub bad : m.bad ≡ first_not_carried format size 1 os
-  pub few : m.bad ≤ most_operations
-  pub sized : m.bad ≡ 0 → m.size ≡ all_size format os
-  pub small : m.size ≤ most_operations * most_written
+-- what measuring a list beside `size` bytes of data gives: the bytes of all its operations; or the first that is not carried
+unfoldable pub Measures : ℕ → ℕ → List Operation → Result ℕ Refusal → Type 0
+Measures format size os (Ok n) =
+    (first_not_carried format size 1 os ≡ 0) × (n ≡ all_size format os) × (n ≤ most_operations * most_written)
+Measures format size os (Err (NotCarried bad)) =
+    (bad ≡ first_not_carried format size 1 os) × (1 ≤ bad) × (bad ≤ most_operations)
+Measures format size os (Err NotAList) = ⊥
+Measures format size os (Err TooLong) = ⊥
+Measures format size os (Err NoRoom) = ⊥
 
 -- an operation that is carried beside `size` bytes of data: its parameters are bytes, and what it brings lies in the data
 pub record Carried (size : ℕ) (o : Operation) : Type 0 where

@@ -4,11 +4,13 @@ ghost use Rattle.operations.specs.Rows.{select, update, read, update_record, is_
 ghost use Rattle.operations.specs.Sizes.{Measures};
 ghost use Rattle.operations.specs.Carried as spec;
 
+use crate::Refusal;
 use crate::rows::{
     ABSOLUTE, BACKWARD, FORWARD, INCREASE, NEXT, Operation, PREVIOUS, READ, READ_RECORD, SEARCH,
     SELECT, UPDATE, UPDATE_RECORD, operation_at, operations_in,
 };
 use crate::sizes::written_size;
+use command::Format;
 
 // The largest number that a byte of a command holds.
 const MOST_IN_BYTE: usize = 0xFF;
@@ -19,7 +21,20 @@ const MOST_OFFSET: usize = 0x7FFF;
 // The bytes of the longest path: 8 identifiers.
 const LONGEST_PATH: usize = 16;
 
+// Returns the format of a number, 0 compact and 1 expanded. No other carries an operation: the first of a list is at fault.
+#[tactic(auto, using(octets::proofs::Picks::choices), unfolding(crate::specs::Carried::format_of))]
+pub fn format_of(number: u8) -> Result<Format, Refusal>
+    ensures { result ≡ spec.format_of number }
+{
+    match number {
+        0 => Ok(Format::Compact),
+        1 => Ok(Format::Expanded),
+        _ => Err(Refusal::NotCarried(1)),
+    }
+}
+
 // Returns whether mode and number name a record: next or previous with no number, or the one of a number.
+#[tactic(auto, using(octets::proofs::Picks::choices), unfolding(crate::specs::Carried::mode_fits))]
 fn record_fits(mode: usize, number: usize) -> bool
     ensures { result ≡ spec.mode_fits update_record mode number }
 {
@@ -28,6 +43,7 @@ fn record_fits(mode: usize, number: usize) -> bool
 }
 
 // Returns whether a path of `count` bytes lies in `size` bytes of data from `from` on: 1 to 8 identifiers.
+#[tactic(auto, using(octets::proofs::Picks::choices), unfolding(crate::specs::Carried::bytes_fit))]
 fn path_fits(size: usize, from: usize, count: usize) -> bool
     requires { (from < 65536) × (count < 65536) }
     ensures { result ≡ spec.bytes_fit size select from count }
@@ -39,6 +55,7 @@ fn path_fits(size: usize, from: usize, count: usize) -> bool
 }
 
 // Returns whether `count` bytes lie in `size` bytes of data from `from` on: 1 to 255.
+#[tactic(auto, using(octets::proofs::Picks::choices), unfolding(crate::specs::Carried::bytes_fit))]
 fn data_fits(size: usize, from: usize, count: usize) -> bool
     requires { (from < 65536) × (count < 65536) }
     ensures { result ≡ spec.bytes_fit size update from count }
@@ -50,19 +67,20 @@ fn data_fits(size: usize, from: usize, count: usize) -> bool
 }
 
 // Returns whether a read can stand in its place and wants what one can: up to 255 bytes; in compact it is the last.
-fn wanted_fits(format: u8, last: bool, from: usize, count: usize) -> bool
-    ensures { result ≡ (spec.bytes_fit 0 read from count && (last || eqb format 1)) }
+#[tactic(auto, using(octets::proofs::Picks::choices), unfolding(crate::specs::Carried::bytes_fit))]
+fn wanted_fits(format: Format, last: bool, from: usize, count: usize) -> bool
+    ensures { result ≡ (spec.bytes_fit 0 read from count && (last || eqb (spec.number_of format) 1)) }
 {
-    ((from == 0) & (count <= MOST_IN_BYTE)) & (last | (format == 1))
+    ((from == 0) & (count <= MOST_IN_BYTE)) & (last | matches!(format, Format::Expanded))
 }
 
 // Returns whether a format carries an operation beside `size` bytes of data; `last` tells that none comes after it.
-fn is_carried(format: u8, size: usize, last: bool, o: Operation) -> bool
-    requires { (spec.is_format format ≡ true) × RowFits o }
-    ensures { result ≡ spec.is_carried format size last o }
+#[tactic(auto, using(octets::proofs::Picks::choices), unfolding(crate::specs::Carried::is_carried, crate::specs::Carried::mode_fits, crate::specs::Carried::bytes_fit))]
+fn is_carried(format: Format, size: usize, last: bool, o: Operation) -> bool
+    requires { RowFits o }
+    ensures { result ≡ spec.is_carried (spec.number_of format) size last o }
 {
-    let kind = o.kind;
-    match kind {
+    match o.kind {
         SELECT => ((o.mode == 0) & (o.number == 0)) & path_fits(size, o.from, o.count),
         UPDATE => ((o.mode == 0) & (o.number <= MOST_OFFSET)) & data_fits(size, o.from, o.count),
         READ => {
@@ -81,38 +99,19 @@ fn is_carried(format: u8, size: usize, last: bool, o: Operation) -> bool
     }
 }
 
-// What a list of operations comes to: the number, from 1, of the first that the format does not carry, 0 where it carries all; and then how
-// many bytes all of them take.
-#[derive(Clone, Copy)]
-pub struct Measured {
-    pub bad: usize,
-    pub size: usize,
-}
-
-// Returns what a list comes to in a format, beside `size` bytes of data.
-pub fn measure(format: u8, list: &[u8], size: usize) -> Measured
+// Returns how many bytes all operations of a list take in a format, beside `size` bytes of data; or the first that it does not carry.
+pub fn measure(format: Format, list: &[u8], size: usize) -> Result<usize, Refusal>
     requires { is_list (length list.now) ≡ true }
-    ensures { Measures format size (operations_of list.now) result }
+    ensures { Measures (spec.number_of format) size (operations_of list.now) result }
 {
-    if 1 < format {
-        return Measured { bad: 1, size: 0 };
-    }
     let n = operations_in(list.len());
-    let mut written: usize = 0;
-    let mut i: usize = 0;
-    while i < n {
+    let mut written = 0;
+    for i in 0..n {
         let o = operation_at(list, i);
         if !is_carried(format, size, i + 1 == n, o) {
-            return Measured {
-                bad: i + 1,
-                size: 0,
-            };
+            return Err(Refusal::NotCarried(i + 1));
         }
         written += written_size(format, o);
-        i += 1;
     }
-    Measured {
-        bad: 0,
-        size: written,
-    }
+    Ok(written)
 }

@@ -70,6 +70,7 @@ pub(crate) fn operations_in(size: usize) -> usize
 }
 
 // Returns whether so many bytes are 1 to 40 whole operations.
+#[tactic(auto, unfolding(crate::specs::Rows::is_list))]
 pub(crate) fn is_list(size: usize) -> bool
     ensures { result ≡ spec.is_list size }
 {
@@ -77,6 +78,7 @@ pub(crate) fn is_list(size: usize) -> bool
 }
 
 // Returns the operation that stands in a list at the number i, from 0.
+#[tactic(auto, unfolding(crate::specs::Rows::operation_at))]
 pub(crate) fn operation_at(list: &[u8], i: usize) -> Operation
     requires { spec.row_size * i + spec.row_size ≤ length list.now }
     ensures { (result ≡ spec.operation_at list.now i) × spec.RowFits result }

@@ -1,10 +1,12 @@
 // How many bytes an operation and a whole script take.
 ghost use Rattle.std.specs.Prelude.{◌≡◌, ◌+◌, ◌<◌};
 ghost use Rattle.octets.specs.Bytes.{InWord};
+ghost use Rattle.operations.specs.Carried.{number_of};
 ghost use Rattle.operations.specs.Scripts.{has_le};
 ghost use Rattle.operations.specs.Sizes as spec;
 
 use crate::rows::{INCREASE, Operation, SEARCH, is_read};
+use command::Format;
 use tlv::lengths::length_size;
 
 // The bytes of a header.
@@ -18,6 +20,7 @@ pub fn has_le(kind: usize) -> bool
 }
 
 // Returns how many bytes an operation's command takes in a compact script.
+#[tactic(auto, using(octets::proofs::Picks::choices), unfolding(crate::specs::Sizes::compact_size))]
 pub fn compact_size(o: Operation) -> usize
     requires { o.count < 65536 }
     ensures { result ≡ spec.compact_size o }
@@ -29,6 +32,7 @@ pub fn compact_size(o: Operation) -> usize
 }
 
 // Returns how many bytes an operation's C-APDU has.
+#[tactic(auto, using(octets::proofs::Picks::choices, crate::proofs::Counted::compact_within), unfolding(crate::specs::Sizes::capdu_size))]
 pub fn capdu_size(o: Operation) -> usize
     requires { o.count < 65536 }
     ensures { result ≡ spec.capdu_size o }
@@ -40,6 +44,7 @@ pub fn capdu_size(o: Operation) -> usize
 }
 
 // Returns how many bytes a value takes with its tag and its length.
+#[tactic(auto, unfolding(crate::specs::Sizes::tlv_size))]
 fn tlv_size(n: usize) -> usize
     requires { InWord (n + 4) }
     ensures { result ≡ spec.tlv_size n }
@@ -48,23 +53,25 @@ fn tlv_size(n: usize) -> usize
 }
 
 // Returns how many bytes an operation takes in a script of a format.
-pub fn written_size(format: u8, o: Operation) -> usize
+#[tactic(auto, using(octets::proofs::Picks::choices, crate::proofs::Counted::capdu_within), unfolding(crate::specs::Sizes::written_size))]
+pub fn written_size(format: Format, o: Operation) -> usize
     requires { o.count < 65536 }
-    ensures { result ≡ spec.written_size format o }
+    ensures { result ≡ spec.written_size (number_of format) o }
 {
-    if format == 0 {
-        return compact_size(o);
+    match format {
+        Format::Compact => compact_size(o),
+        Format::Expanded => tlv_size(capdu_size(o)),
     }
-    tlv_size(capdu_size(o))
 }
 
 // Returns how many bytes the script has whose operations take `n`.
-pub fn script_size(format: u8, n: usize) -> usize
+#[tactic(auto, using(octets::proofs::Picks::choices), unfolding(crate::specs::Sizes::script_size))]
+pub fn script_size(format: Format, n: usize) -> usize
     requires { InWord (n + 4) }
-    ensures { result ≡ spec.script_size format n }
+    ensures { result ≡ spec.script_size (number_of format) n }
 {
-    if format == 0 {
-        return n;
+    match format {
+        Format::Compact => n,
+        Format::Expanded => tlv_size(n),
     }
-    tlv_size(n)
 }

@@ -2,7 +2,7 @@
 ghost use Rattle.std.specs.Prelude.{◌≡◌, true, ◌+◌, ◌≤◌, ◌<◌, length};
 ghost use Rattle.octets.specs.Bytes.{overwrite};
 ghost use Rattle.operations.specs.Rows.{is_list, operations_of};
-ghost use Rattle.operations.specs.Carried.{first_not_carried};
+ghost use Rattle.operations.specs.Carried.{first_not_carried, number_of};
 ghost use Rattle.operations.specs.Sizes.{Carried, Writable, compact_size, tlv_size, capdu_size, written_size, all_size};
 ghost use Rattle.operations.specs.Scripts as spec;
 
@@ -11,13 +11,14 @@ use crate::rows::{
     operation_at, operations_in,
 };
 use crate::sizes::{HEADER_SIZE, capdu_size, has_le};
-use command::instruction;
+use command::{Format, instruction};
 use tlv::lengths::put_length;
 
 // "P1 08 from the root"
 const FROM_ROOT: usize = 0x08;
 
 // Returns the instruction of a kind of operation.
+#[tactic(auto, using(octets::proofs::Picks::choices), unfolding(crate::specs::Scripts::instruction_of))]
 fn instruction_of(kind: usize) -> usize
     ensures { (result ≡ spec.instruction_of kind) × (result < 256) }
 {
@@ -33,6 +34,7 @@ fn instruction_of(kind: usize) -> usize
 }
 
 // Returns P1 of an operation's command.
+#[tactic(auto, using(octets::proofs::Picks::choices), unfolding(crate::specs::Scripts::p1_of))]
 fn p1_of(o: Operation) -> usize
     ensures { result ≡ spec.p1_of o }
 {
@@ -46,6 +48,7 @@ fn p1_of(o: Operation) -> usize
 }
 
 // Returns P2 of an operation's command.
+#[tactic(auto, using(octets::proofs::Picks::choices), unfolding(crate::specs::Scripts::p2_of))]
 fn p2_of(o: Operation) -> usize
     ensures { result ≡ spec.p2_of o }
 {
@@ -102,14 +105,15 @@ fn put_capdu(o: Operation, data: &[u8], out: &mut [u8], at: usize) -> usize
 }
 
 // Writes an operation of a script of a format at the place `at`. Returns the place after it.
-fn put_operation(format: u8, o: Operation, data: &[u8], out: &mut [u8], at: usize) -> usize
-    requires { Carried (length «data».now) o × (at + written_size format o ≤ length out.old) }
-    ensures { (out.new ≡ overwrite out.old at (spec.written_as format «data».now o)) × (result ≡ at + written_size format o) }
+#[tactic(auto, using(octets::proofs::Picks::choices), unfolding(crate::specs::Scripts::written_as, crate::specs::Sizes::written_size))]
+fn put_operation(format: Format, o: Operation, data: &[u8], out: &mut [u8], at: usize) -> usize
+    requires { Carried (length «data».now) o × (at + written_size (number_of format) o ≤ length out.old) }
+    ensures { (out.new ≡ overwrite out.old at (spec.written_as (number_of format) «data».now o)) × (result ≡ at + written_size (number_of format) o) }
 {
-    if format == 0 {
-        return put_command(o, data, out, at);
+    match format {
+        Format::Compact => put_command(o, data, out, at),
+        Format::Expanded => put_capdu(o, data, out, at),
     }
-    put_capdu(o, data, out, at)
 }
 
 // Returns the operation itself, with its count taken from one byte: knowing that, the compiler makes shorter code.
@@ -117,39 +121,34 @@ fn counted(o: Operation) -> Operation
     requires { o.count < 256 }
     ensures { result ≡ o }
 {
-    let count = octets::wide(o.count as u8);
     Operation {
-        kind: o.kind,
-        mode: o.mode,
-        number: o.number,
-        from: o.from,
-        count,
+        count: octets::wide(o.count as u8),
+        ..o
     }
 }
 
 // Writes all operations of a list, one behind the other, from the place `at` on.
-fn put_all(format: u8, list: &[u8], data: &[u8], out: &mut [u8], at: usize)
-    requires { (is_list (length list.now) ≡ true) × (first_not_carried format (length «data».now) 1 (operations_of list.now) ≡ 0) × (at + all_size format (operations_of list.now) ≤ length out.old) }
-    ensures { out.new ≡ overwrite out.old at (spec.all_written format «data».now (operations_of list.now)) }
+fn put_all(format: Format, list: &[u8], data: &[u8], out: &mut [u8], at: usize)
+    requires { (is_list (length list.now) ≡ true) × (first_not_carried (number_of format) (length «data».now) 1 (operations_of list.now) ≡ 0) × (at + all_size (number_of format) (operations_of list.now) ≤ length out.old) }
+    ensures { out.new ≡ overwrite out.old at (spec.all_written (number_of format) «data».now (operations_of list.now)) }
 {
-    let n = operations_in(list.len());
     let mut place = at;
-    let mut i: usize = 0;
-    while i < n {
+    for i in 0..operations_in(list.len()) {
         place = put_operation(format, counted(operation_at(list, i)), data, out, place);
-        i += 1;
     }
 }
 
 // Writes the script of a list of operations, which take `size` bytes, to the front of `out`.
-pub fn put_script(format: u8, size: usize, list: &[u8], data: &[u8], out: &mut [u8])
-    requires { Writable format size list.now «data».now out.old }
-    ensures { out.new ≡ overwrite out.old 0 (spec.script_of format «data».now (operations_of list.now)) }
+pub fn put_script(format: Format, size: usize, list: &[u8], data: &[u8], out: &mut [u8])
+    requires { Writable (number_of format) size list.now «data».now out.old }
+    ensures { out.new ≡ overwrite out.old 0 (spec.script_of (number_of format) «data».now (operations_of list.now)) }
 {
-    if format == 0 {
-        return put_all(format, list, data, out, 0);
+    match format {
+        Format::Compact => put_all(format, list, data, out, 0),
+        Format::Expanded => {
+            octets::fill(out, 0, 1, 0xAA);
+            let from = put_length(out, 1, size);
+            put_all(format, list, data, out, from);
+        }
     }
-    octets::fill(out, 0, 1, 0xAA);
-    let from = put_length(out, 1, size);
-    put_all(format, list, data, out, from);
 }

@@ -10,8 +10,8 @@ use Rattle.std.specs.Prelude.{Option, Some, None, Result, Ok, Err}
 use Rattle.octets.proofs.Picks.{lt_yes, lt_no}
 use Rattle.boundary.specs.Packed.{packed, Fits}
 use Rattle.boundary.proofs.Apart.{number_back, count_back, length_back, low_back, middle_back, high_back}
-use Rattle.operations.specs.declared.Built.{Built}
-use Rattle.operations.specs.Builds.{Building, building, BuiltFits}
+use Rattle.operations.specs.declared.Numbers.{Numbers}
+use Rattle.operations.specs.Builds.{Building, BuiltFits, numbered}
 use Rattle.answers.specs.declared.Summary.{Summary}
 use Rattle.answers.specs.declared.results.Told.{Told}
 use Rattle.answers.specs.declared.results.Told.TheVariants as told
@@ -22,10 +22,10 @@ use Rattle.rfm_desk.specs.Packed.{Parts, Shown, crosses, across, most_answer, pa
 
 -- ---- a build
 
-pub built-room : (b : Built) → BuiltFits b → Fits b.refusal b.operations b.length
+pub built-room : (b : Numbers) → BuiltFits b → Fits b.refusal b.operations b.length
 built-room b fits = record { number = omega (arith, fits.refusal); count = omega (arith, fits.operations); length = omega (arith, fits.length) }
 
-pub built-crosses : (b : Built) → BuiltFits b → (memory : List ℕ) (g : Building) (n : ℕ) → building b memory ≡ g → n ≡ packed b.refusal b.operations b.length
+pub built-crosses : (b : Numbers) → BuiltFits b → (memory : List ℕ) (g : Building) (n : ℕ) → numbered b memory ≡ g → n ≡ packed b.refusal b.operations b.length
     → crosses n memory ≡ across g
 unfolding across
 built-crosses b fits memory g n e p =

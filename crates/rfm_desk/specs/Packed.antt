@@ -2,7 +2,7 @@
 use Rattle.std.specs.Prelude.{ℕ, ◌+◌, ◌*◌, ◌^◌, ◌/◌, ◌%◌, List, length, ltb, Option, Some, None, Result, Ok, Err}
 use Rattle.octets.specs.Choice.{pick}
 use Rattle.boundary.specs.Packed.{packed, number_in, count_in, length_in}
-use Rattle.operations.specs.declared.Built.{Built}
+use Rattle.operations.specs.declared.Numbers.{Numbers}
 use Rattle.operations.specs.Builds.{Building}
 use Rattle.answers.specs.declared.Summary.{Summary}
 use Rattle.answers.specs.declared.results.Told.{Told}
@@ -13,13 +13,13 @@ use Rattle.answers.specs.Answers.{read_answer}
 -- ---- a build
 
 -- the answer that the three macros of include/rfm.h take from a number
-abbrev pub built_in : ℕ → Built
+abbrev pub built_in : ℕ → Numbers
 built_in sum = record { refusal = number_in sum; operations = count_in sum; length = length_in sum }
 
 -- what a caller gets: one number, the answer that the macros take from it, and the script memory
 pub record Crossed : Type 0 where
   pub sum : ℕ
-  pub answer : Built
+  pub answer : Numbers
   pub memory : List ℕ
 
 abbrev pub crosses : ℕ → List ℕ → Crossed

@@ -18,7 +18,7 @@ const MOST_ANSWER: usize = 16777215;
 pub extern "C" fn rfm_build(format: u8, operations: &[u8], data: &[u8], script: &mut [u8]) -> u64
     ensures { spec.crosses result script.new ≡ spec.across (build format operations.now «data».now script.old) }
 {
-    let b = operations::build(format, operations, data, script);
+    let b = operations::in_numbers(operations::build(format, operations, data, script));
     packed(b.refusal, b.operations, b.length)
 }
 

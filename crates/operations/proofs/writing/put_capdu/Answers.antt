@@ -1,71 +1,54 @@
 -- `operations::writing::put_capdu` meets its contract: tag, length, command and Le are written one behind the other. Assumes nothing.
 use mathlib.Core.Path.{◌≡◌, sym, ap}
-use Prim.Native.Nat.{◌+◌, ◌≤◌}
-use native.Mathlib.Omega.{arith}
+use Prim.Native.Nat.{◌+◌}
 use lib.ListN.{length}
+use native.Mathlib.Omega.{arith}
 use Rattle.octets.proofs.Picks.{told}
 use Rattle.octets.proofs.Writes.{write-none}
 use Rattle.tlv.specs.Lengths.{length_bytes}
 use Rattle.operations.specs.Sizes.{capdu_size, tlv_size}
-use Rattle.operations.proofs.Counted.{capdu-within, tlv_within}
+use Rattle.operations.proofs.Counted.{capdu_within, tlv_within}
 use Rattle.operations.proofs.Scripted.{le_there, le_none, capdu_size_lem, capdu-written}
 use Rattle.operations.proofs.writing.put_capdu.Goals as goal
-use Rattle.operations.proofs.writing.put_capdu.Lts as lts
-use Rattle.operations.proofs.writing.put_capdu.Reads as reads
-use Rattle.operations.proofs.writing.put_capdu.Tie as tie
-
-abbrev After-put_length : Type 0
-After-put_length = lts.After-put_length tie.the-claims reads.Pre reads.Post
-
-abbrev Then1 : Type 0
-Then1 = lts.Then1 tie.the-claims reads.Pre reads.Post
 
 pub fill-requires : goal.fill-requires
-fill-requires c =
-    omega (arith, tlv_within (capdu_size c.args.o))
+fill-requires c = omega (arith, tlv_within (capdu_size c.args.o))
 
 pub put_length-from-requires : goal.put_length-from-requires
 put_length-from-requires c =
     let t = tlv_within (capdu_size c.args.o) in
-    let w = capdu-within c.args.o in
+    let w = capdu_within c.args.o in
     (omega arith, omega arith)
-
--- where the command begins
-begins : (k : After-put_length)
-    → k.put_length-from.result ≡ k.args.at + 1 + length (length_bytes (capdu_size k.args.o))
-begins k = rw k.capdu_size.ensures at k.put_length-from.ensures.1
 
 pub put_command-end-requires : goal.put_command-end-requires
 unfolding tlv_size
 put_command-end-requires c =
-    let b = begins c.before.before.before.before in
+    let begins : c.put_length-from.result ≡ c.args.at + 1 + length (length_bytes (capdu_size c.args.o)) = rw c.capdu_size.ensures at c.put_length-from.ensures.1 in
     let z = capdu_size_lem c.args.o in
     (c.requires.0, omega arith)
 
--- there is room for Le
-le_fits : (k : Then1)
-    → k.put_command-end.result + 1 ≤ length k.args.out.now
+pub fill-requires-then-has_le : goal.fill-requires-then-has_le
 unfolding tlv_size
-le_fits k =
-    let b = begins k.before.before.before.before.before.before.before.before in
-    let z = capdu_size_lem k.args.o in
-    let l = ap length (le_there k.args.o.kind (told k.has_le.ensures k.if-has_le.true)) in
+fill-requires-then-has_le c =
+    let begins : c.put_length-from.result ≡ c.args.at + 1 + length (length_bytes (capdu_size c.args.o)) = rw c.capdu_size.ensures at c.put_length-from.ensures.1 in
+    let z = capdu_size_lem c.args.o in
+    let l = ap length (le_there c.args.o.kind (told c.has_le.ensures c.if-has_le.true)) in
     omega arith
 
-pub fill-requires-then-has_le : goal.fill-requires-then-has_le
-fill-requires-then-has_le c = omega (arith, le_fits c.before.before)
-
 pub overflow_add-result : goal.overflow_add-result
+unfolding tlv_size
 overflow_add-result c =
-    omega (arith, le_fits c.before.before.before.before.before)
+    let begins : c.put_length-from.result ≡ c.args.at + 1 + length (length_bytes (capdu_size c.args.o)) = rw c.capdu_size.ensures at c.put_length-from.ensures.1 in
+    let z = capdu_size_lem c.args.o in
+    let l = ap length (le_there c.args.o.kind (told c.has_le.ensures c.if-has_le.true)) in
+    omega arith
 
 pub returns-then-has_le : goal.returns-then-has_le
 returns-then-has_le c =
     let e = le_there c.args.o.kind (told c.has_le.ensures c.if-has_le.true) in
-    let h = capdu-written _ _ _ c.args.o c.requires.0 c.requires.1 e
+    capdu-written _ _ _ c.args.o c.requires.0 c.requires.1 e
     c.fill.ensures c.capdu_size.ensures c.put_length-from.ensures.0 c.put_length-from.ensures.1
-    c.put_command-end.ensures.0 c.put_command-end.ensures.1 c.fill-then-has_le.ensures in
-    h
+    c.put_command-end.ensures.0 c.put_command-end.ensures.1 c.fill-then-has_le.ensures
 
 pub returns : goal.returns
 returns c =
