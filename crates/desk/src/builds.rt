@@ -32,7 +32,7 @@ fn put_built(format: u8, rows: &[u8], data: &[u8], out: &mut [u8]) -> usize
     ensures { (out.new ≡ overwrite out.old 0 (spec.building_lines (operations.build format rows.now «data».now (zeros longest_script)))) × (result ≡ length (spec.building_lines (operations.build format rows.now «data».now (zeros longest_script)))) × (result ≤ most_built) }
 {
     let mut script = [0u8; LONGEST_SCRIPT];
-    let built = operations::build(format, rows, data, &mut script);
+    let built = operations::in_numbers(operations::build(format, rows, data, &mut script));
     let second = put_number(out, 0, b"refusal=", built.refusal, b'\n');
     let third = put_number(out, second, b"operations=", built.operations, b'\n');
     let n = built.length;
