@@ -13,8 +13,6 @@ use Rattle.std.specs.Prelude.{Option, Result, Ok, Err}
 use Rattle.octets.specs.Choice.{pick}
 use Rattle.octets.specs.Bytes.{byte, AllBytes, num_at}
 use Rattle.octets.proofs.Picks.{and_left, and_right, or_either, on_pick, either}
-use Rattle.tlv.specs.declared.lengths.Length.{Length}
-use Rattle.tlv.specs.declared.lengths.Length.TheVariants as lengths
 use Rattle.plan.specs.Plans.{most_read}
 use Rattle.command.specs.declared.Format.TheVariants as formats
 use Rattle.answers.specs.declared.words.Words.TheVariants as words
@@ -26,9 +24,9 @@ use Rattle.answers.specs.declared.Summary.{Summary}
 use Rattle.answers.specs.Words.{has_data}
 use Rattle.answers.specs.Results.{piece_at, compact_word, compact_data, data_fit, compact_told, compact_at, piece_told, result_at}
 use Rattle.answers.specs.Answers.{data_read, word_read, compact_read, first_turn, answered_by, results_read}
-use Rattle.answers.specs.Answers.{count_read, count_sized, count_at, definite_by, definite_read, indefinite_read, expanded_read, read_answer}
+use Rattle.answers.specs.Answers.{count_read, count_sized, count_at, definite_sized, definite_read, indefinite_read, expanded_read, read_answer}
 use Rattle.answers.specs.Promised.{SizedFits, PieceFits, ToldFits, AnsweredFits}
-use Rattle.answers.proofs.Places.{there, or_first, WordedFits, word_fits, LengthLies, length_lies, sized-fits}
+use Rattle.answers.proofs.Places.{there, or_first, WordedFits, word_fits, sized-fits}
 use Rattle.answers.proofs.Places.{piece_fits, past_bad, ReadFits, turns_fit}
 
 -- ---- a result on its own
@@ -164,17 +162,17 @@ module _ (answer : List ℕ) (bytes : AllBytes answer) where
       let here = there answer at (omega arith) in
       count_sized-fits end (at + 1) _ (sized-fits answer (at + 1) (omega arith) bytes true end))
 
-  definite_by-fits : (l : Length) → LengthLies answer 1 l → AnsweredFits (length answer) (definite_by answer l)
-  unfolding LengthLies AnsweredFits definite_by
-  definite_by-fits (lengths.Found n from) lies =
-      on_pick (AnsweredFits (length answer)) (eqb n 0) _ _ (λ none. omega arith) (λ some. count_fits (from + n) from lies.1)
-  definite_by-fits (lengths.Bad code) lies = lies.1
+  definite_sized-fits : (s : Result (ℕ × ℕ) ℕ) → SizedFits (length answer) 1 s → AnsweredFits (length answer) (definite_sized answer s)
+  unfolding SizedFits AnsweredFits definite_sized
+  definite_sized-fits (Ok (n, from)) fits =
+      on_pick (AnsweredFits (length answer)) (eqb n 0) _ _ (λ none. omega arith) (λ some. count_fits (from + n) from fits.1)
+  definite_sized-fits (Err place) fits = fits.1
 
   expanded-fits : AnsweredFits (length answer) (expanded_read answer)
   unfolding AnsweredFits expanded_read definite_read indefinite_read
   expanded-fits =
       on_pick (AnsweredFits (length answer)) (eqb (byte answer 0) 0xAB) _ _
-      (λ ab. definite_by-fits _ (length_lies answer 1 (there answer 0 (omega (arith, eqb-true (byte answer 0) 0xAB ab))) bytes))
+      (λ ab. definite_sized-fits _ (sized-fits answer 1 (there answer 0 (omega (arith, eqb-true (byte answer 0) 0xAB ab))) bytes false 0))
       (λ other. on_pick (AnsweredFits (length answer)) (eqb (byte answer 0) 0xAF) _ _
       (λ af. on_pick (AnsweredFits (length answer)) (eqb (byte answer 1) 0x80) _ _
       (λ indefinite. results_fit false 0 0 2 (there answer 1 (omega (arith, eqb-true (byte answer 1) 0x80 indefinite))) (omega arith))

@@ -2,9 +2,6 @@
 use Rattle.std.specs.Prelude.{ℕ, zero, suc, ◌+◌, ◌-◌, Bool, true, false, not, ◌&&◌, ◌||◌, List, length, leb, ltb, eqb, Option, Some, None, Result, Ok, Err}
 use Rattle.octets.specs.Choice.{pick}
 use Rattle.octets.specs.Bytes.{byte, num_at}
-use Rattle.tlv.specs.Lengths.{length_at}
-use Rattle.tlv.specs.declared.lengths.Length.{Length}
-use Rattle.tlv.specs.declared.lengths.Length.TheVariants as lengths
 use Rattle.plan.specs.Plans.{most_read}
 use Rattle.command.specs.declared.Format.TheVariants as formats
 use Rattle.command.specs.Outcomes.{goes_on}
@@ -14,7 +11,7 @@ use Rattle.answers.specs.declared.results.Piece.TheVariants as pieces
 use Rattle.answers.specs.declared.turns.Turn.{Turn}
 use Rattle.answers.specs.declared.Summary.{Summary}
 use Rattle.answers.specs.Words.{has_data, word_at}
-use Rattle.answers.specs.Results.{sized_at, length_stop, piece_at, compact_word, compact_data}
+use Rattle.answers.specs.Results.{sized_at, piece_at, compact_word, compact_data}
 
 -- ---- compact: "Answer: count, status, data of a last outgoing command."
 
@@ -127,13 +124,13 @@ count_at answer end at =
     (Err at)
     (count_sized answer end (sized_at answer true end (at + 1)))
 
--- "AB, length, 80, length, count"
-unfoldable pub definite_by : List ℕ → Length → Result Summary ℕ
-definite_by answer (lengths.Found n from) = pick (eqb n 0) (Err (from - 1)) (count_at answer (from + n) from)
-definite_by answer (lengths.Bad code) = Err (length_stop answer 1 code)
+-- "AB, length, 80, length, count": this length has no end to pass
+unfoldable pub definite_sized : List ℕ → Result (ℕ × ℕ) ℕ → Result Summary ℕ
+definite_sized answer (Ok (n, from)) = pick (eqb n 0) (Err (from - 1)) (count_at answer (from + n) from)
+definite_sized answer (Err place) = Err place
 
 unfoldable pub definite_read : List ℕ → Result Summary ℕ
-definite_read answer = definite_by answer (length_at answer 1 (length answer))
+definite_read answer = definite_sized answer (sized_at answer false 0 1)
 
 -- "AF 80, all R-APDUs, 00 00"
 unfoldable pub indefinite_read : List ℕ → Result Summary ℕ

@@ -10,8 +10,7 @@ ghost use Rattle.std.specs.Prelude.{◌≡◌, ◌≤◌, length};
 ghost use Rattle.answers.specs.Answers as spec;
 ghost use Rattle.answers.specs.Promised.{AnsweredFits};
 
-use results::{COMPACT_DATA, COMPACT_WORD, MOST_DATA, length_stop, sized_at};
-use tlv::lengths::{Length, code_of, length_at};
+use results::{COMPACT_DATA, COMPACT_WORD, MOST_DATA, sized_at};
 use turns::turns_from;
 use words::{Words, has_data, word_at};
 
@@ -129,15 +128,12 @@ fn count_at(answer: &[u8], end: usize, at: usize) -> Result<Summary, usize>
 }
 
 // Returns what an answer that begins with AB comes to.
-#[tactic(auto, using(octets::proofs::Picks::choices), unfolding(crate::specs::Answers::definite_read, crate::specs::Answers::definite_by, tlv::specs::Lengths::code_of, tlv::specs::Promised::LengthFits))]
+#[tactic(auto, using(octets::proofs::Picks::choices), unfolding(crate::specs::Answers::definite_read, crate::specs::Answers::definite_sized, crate::specs::Promised::SizedFits))]
 fn definite_read(answer: &[u8]) -> Result<Summary, usize>
     requires { 1 ≤ length answer.now }
     ensures { result ≡ spec.definite_read answer.now }
 {
-    let l = length_at(answer, 1, answer.len());
-    let Length::Found(n, from) = l else {
-        return Err(length_stop(answer, 1, code_of(l)));
-    };
+    let (n, from) = sized_at(answer, false, 0, 1)?;
     if n == 0 {
         return Err(from - 1);
     }

@@ -31,7 +31,7 @@ pub enum Told {
 
 // Returns the place where the reading of a length at `at` stops that ends in a code.
 #[tactic(auto, using(octets::proofs::Picks::choices, crate::proofs::Places::no_byte), unfolding(crate::specs::Results::length_stop, crate::specs::Results::form_bytes))]
-pub(crate) fn length_stop(answer: &[u8], at: usize, code: usize) -> usize
+fn length_stop(answer: &[u8], at: usize, code: usize) -> usize
     requires { at ≤ length answer.now }
     ensures { result ≡ spec.length_stop answer.now at code }
 {

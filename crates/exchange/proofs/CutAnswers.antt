@@ -11,29 +11,12 @@ use Rattle.std.specs.Prelude.{Result, Ok, Err}
 use Rattle.octets.specs.Choice.{pick}
 use Rattle.octets.specs.Bytes.{byte, num_at}
 use Rattle.octets.proofs.Picks.{on_pick, pick_true, pick-false}
-use Rattle.tlv.specs.declared.lengths.Length.{Length}
-use Rattle.tlv.specs.declared.lengths.Length.TheVariants as lengths
-use Rattle.tlv.specs.Lengths.{length_at}
 use Rattle.answers.specs.declared.Summary.{Summary}
-use Rattle.answers.specs.Results.{sized_by, sized_at}
-use Rattle.answers.specs.Answers.{results_read, count_read, count_sized, count_at, definite_by, definite_read, indefinite_read, expanded_read}
+use Rattle.answers.specs.Results.{sized_at}
+use Rattle.answers.specs.Answers.{results_read, count_read, count_sized, count_at, definite_sized, definite_read, indefinite_read, expanded_read}
 use Rattle.exchange.proofs.Cut.{Begins, num_begins, by_place, Kind, Cut, missing, refused, alike, needed_later, needed, follows}
 use Rattle.exchange.proofs.CutLengths.{SizedBefore, SizedLater, sized_kind, sized-later, sized_cut}
 use Rattle.exchange.proofs.CutTurns.{AnsweredLater, answered_kind, results-later, results_cut}
-
--- AB from its length, which has no end to pass
-unfoldable definite_sized : List ℕ → Result (ℕ × ℕ) ℕ → Result Summary ℕ
-definite_sized a (Ok (n, from)) = pick (eqb n 0) (Err (from - 1)) (count_at a (from + n) from)
-definite_sized a (Err place) = Err place
-
-definite_by_lem : (a : List ℕ) (l : Length) → definite_by a l ≡ definite_sized a (sized_by a false 0 1 l)
-unfolding definite_by definite_sized sized_by pick
-definite_by_lem a (lengths.Found n from) = refl
-definite_by_lem a (lengths.Bad code) = refl
-
-definite-is : (a : List ℕ) → definite_read a ≡ definite_sized a (sized_at a false 0 1)
-unfolding definite_read sized_at
-definite-is a = definite_by_lem a (length_at a 1 (length a))
 
 -- ---- from `k` on
 
@@ -141,11 +124,11 @@ module _ (x a : List ℕ) (begins : Begins x a) where
   by_cut (Err place) h = refused K place h
 
   definite_cut : Cut K k (definite_read x) (definite_read a)
+  unfolding definite_read
   definite_cut =
-      rw (definite-is x, definite-is a)
-      (follows (sized_kind 1) (definite_sized x) (definite_sized a) (unfold definite_sized in refl) (unfold definite_sized in refl) (sized_cut false 0 1 x a begins)
+      follows (sized_kind 1) (definite_sized x) (definite_sized a) (unfold definite_sized in refl) (unfold definite_sized in refl) (sized_cut false 0 1 x a begins)
       (λ b. by_cut (sized_at a false 0 1) b)
-      (λ f. definite-later a k begins.inside (sized_at a false 0 1) f))
+      (λ f. definite-later a k begins.inside (sized_at a false 0 1) f)
 
   indefinite_cut : 0 < k → Cut K k (indefinite_read x) (indefinite_read a)
   unfolding indefinite_read

@@ -17,10 +17,10 @@ use Rattle.octets.proofs.Picks.{yes, no, lt_no, le_no, eq_yes, eq_no, on_pick, r
 use Rattle.tlv.specs.Lengths.{length_bytes}
 use Rattle.expanded.specs.Expanded as expanded
 use Rattle.answers.specs.declared.turns.Turn.{Turn}
-use Rattle.answers.specs.Answers.{definite_end, indefinite_end, turned, first_turn, answered_by, results_read, count_read, count_sized, count_at, definite_by, definite_read, indefinite_read, expanded_read, read_answer}
+use Rattle.answers.specs.Answers.{definite_end, indefinite_end, turned, first_turn, answered_by, results_read, count_read, count_sized, count_at, definite_sized, definite_read, indefinite_read, expanded_read, read_answer}
 use Rattle.exchange.specs.ReadBack.{Reply, IsRead}
 use Rattle.exchange.proofs.Replies.{encoded, all_encoded, AllGood}
-use Rattle.exchange.proofs.Places.{Stands, stands-whole, stands-first, stands_second, stands-next, stands-inside, stands-byte, stands_num, stands-length}
+use Rattle.exchange.proofs.Places.{Stands, stands-whole, stands-first, stands_second, stands-next, stands-inside, stands-byte, stands_num}
 use Rattle.exchange.proofs.ReadResult.{reply_some, sized-read}
 use Rattle.exchange.proofs.ReadResults.{Enough, HasResult, ReadTo, Ends, turns_read}
 use Rattle.exchange.proofs.ReadTold.{told-read}
@@ -175,9 +175,10 @@ module _ (count : ℕ) (rapdus : List ℕ) where
   rapdus_stand = stands_second answer count_place counted rapdus count-stands
 
   value_read : length body < 65536 → read_answer 1 answer ≡ count_at answer end value_place
-  unfolding read_answer expanded_read definite_read definite_by pick expanded.definite_answer
+  unfolding read_answer expanded_read definite_read definite_sized pick expanded.definite_answer
   value_read short =
-      ap (definite_by answer) (stands-length answer 1 (length body) short (stands-first answer 1 (length_bytes (length body)) body length-stands))
+      ap (definite_sized answer)
+      (sized-read answer false 0 1 (length body) short (stands-first answer 1 (length_bytes (length body)) body length-stands) (λ h. absurd (false≢true h)))
       ∙ sym (eq_no (length body) 0 _ (λ none. omega (arith, body_size)) refl)
 
   size-read : count_at answer end value_place ≡ count_read answer end (length counted) count_place

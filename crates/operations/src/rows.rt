@@ -8,6 +8,8 @@
 ghost use Rattle.std.specs.Prelude.{◌≡◌, ◌+◌, ◌*◌, ◌≤◌, length};
 ghost use Rattle.operations.specs.Rows as spec;
 
+// The kinds. They stay numbers: any byte may stand in a list, what a list comes to is said of that byte, and an enum would be made of it in
+// each function and turned back in each promise.
 pub const SELECT: usize = 1;
 
 pub const UPDATE: usize = 2;
@@ -22,6 +24,7 @@ pub const INCREASE: usize = 6;
 
 pub const SEARCH: usize = 7;
 
+// The modes of a record operation, and the ways of a search.
 pub const NEXT: usize = 2;
 
 pub const PREVIOUS: usize = 3;
