@@ -4,13 +4,14 @@ use contract.Lifetimes.{Lfts}
 use Rattle.octets.proofs.Determined.{Determined, by_equation, pair, both}
 use Rattle.lines.proofs.digits.plain_number.Reads as plain-number
 use Rattle.lines.proofs.digits.is_hex.Reads as is-hex
-use Rattle.lines.proofs.digits.is_script.Reads as is-script
 use Rattle.lines.proofs.digits.decode.Reads as decode
 use Rattle.lines.proofs.put.put_number.Reads as put-number
 use Rattle.lines.proofs.put.put_bytes.Reads as put-bytes
 use Rattle.lines.proofs.values.value_end.Reads as value-end
 use Rattle.lines.proofs.values.value_at.Reads as value-at
 use Rattle.lines.proofs.values.number_at.Reads as number_at
+use Rattle.lines.proofs.values.hex_at.Reads as hex-at
+use Rattle.lines.proofs.calls.call_at.Reads as call-at
 use Rattle.lines.proofs.worked.worked_table.Reads as worked-table
 use Rattle.lines.proofs.worked.worked_files.Reads as worked-files
 
@@ -31,15 +32,18 @@ module _ (κs : Lfts 1) where
   pub is_hex_determined : Determined (is-hex.Learnt κs) (λ args a e. a)
   is_hex_determined = by_equation (λ args a e h. h)
 
-  pub is_script_determined : Determined (is-script.Learnt κs) (λ args a e. a)
-  is_script_determined = by_equation (λ args a e h. h)
-
 module _ (κs : Lfts 2) where
   pub value_at_determined : Determined (value-at.Learnt κs) (λ args a e. a)
   value_at_determined = by_equation (λ args a e h. h.0)
 
   pub number_at_determined : Determined (number_at.Learnt κs) (λ args a e. a)
   number_at_determined = by_equation (λ args a e h. h.0)
+
+  pub hex_at_determined : Determined (hex-at.Learnt κs) (λ args a e. a)
+  hex_at_determined = by_equation (λ args a e h. h.0)
+
+  pub call_at_determined : Determined (call-at.Learnt κs) (λ args a e. a)
+  call_at_determined = by_equation (λ args a e h. h)
 
   pub decode_determined : Determined (decode.Learnt κs) (λ args a e. pair a e.1.0.now)
   decode_determined = by_equation (λ args a e h. both h.1 h.0)

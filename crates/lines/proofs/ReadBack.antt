@@ -18,26 +18,32 @@ use Rattle.octets.specs.Choice.{pick, all_below}
 use Rattle.octets.specs.Bytes.{byte, part, AllBytes, starts_with}
 use Rattle.octets.proofs.Picks.{pick_true, and_both, all_at, on_pick, on_test}
 use Rattle.octets.proofs.Writes.{part-lent}
-use Rattle.lines.specs.declared.digits.Number.TheVariants.{Value}
-use Rattle.lines.specs.declared.values.Value.TheVariants.{At}
-use Rattle.lines.specs.Digits.{sign, digit, number_from, number_of, most_number, is_plain, at_most, plain_number, all_hex, is_hex, pair, decoded, hex_of, decimal_in, decimal}
+use Rattle.std.specs.Prelude.{Option, Some, None, is_some, unwrap_or}
+use Rattle.lines.specs.Digits.{sign, digit, digit_in, hex_value, number_from, number_of, most_number, is_plain, plain_number, all_hex, is_hex, pair, decoded, hex_of, decimal_in, decimal}
 use Rattle.lines.specs.Named.{named}
 use Rattle.lines.specs.Values.{up_to, value_end, value_at}
-use Rattle.lines.proofs.Hex.{hex-length}
+use Rattle.lines.proofs.Hex.{hex_length}
 use Rattle.lines.proofs.Decimal.{digits_most}
 
 -- ---- signs
 
 -- by computation, for each of the sixteen
-signs : all_below 16 (λ (n : ℕ). eqb (digit (sign n)) n) ≡ true
+signs : all_below 16 (λ (n : ℕ). eqb (hex_value (sign n)) n) ≡ true
 unfolding all_below digit sign pick
 signs = refl
 
-sign_read : (n : ℕ) → n < 16 → digit (sign n) ≡ n
-sign_read n h = eqb-true (digit (sign n)) n (all_at 16 n _ signs h)
+value_read_lem : (n : ℕ) → n < 16 → hex_value (sign n) ≡ n
+value_read_lem n h = eqb-true (hex_value (sign n)) n (all_at 16 n _ signs h)
 
-hex-sign : (n : ℕ) → n < 16 → ltb (digit (sign n)) 16 ≡ true
-hex-sign n h = lt-ltb (digit (sign n)) 16 (omega (arith, sign_read n h))
+known : (n : ℕ) (o : Option ℕ) → n < 16 → unwrap_or o 16 ≡ n → o ≡ Some n
+known n None h e = absurd (omega arith)
+known n (Some d) h e = ap Some e
+
+sign_read : (n : ℕ) → n < 16 → digit (sign n) ≡ Some n
+sign_read n h = known n (digit (sign n)) h (value_read_lem n h)
+
+hex-sign : (n : ℕ) → n < 16 → is_some (digit (sign n)) ≡ true
+hex-sign n h = rw (sign_read n h)
 
 sign-least : (n : ℕ) → 0x30 + n ≤ sign n
 unfolding sign
@@ -50,7 +56,7 @@ unfolding decoded hex_of
 hex-read [] h = refl
 hex-read (b ∷ bs) h =
     let small : b < 256 = h 0 in
-    let same : pair (sign (b / 16)) (sign (b % 16)) ≡ b = omega (arith, sign_read (b / 16) (omega arith), sign_read (b % 16) (omega arith)) in
+    let same : pair (sign (b / 16)) (sign (b % 16)) ≡ b = omega (arith, value_read_lem (b / 16) (omega arith), value_read_lem (b % 16) (omega arith)) in
     λ i. same i ∷ hex-read bs (λ k. h (suc k)) i
 
 hex_digits : (bs : List ℕ) → AllBytes bs → all_hex (hex_of bs) ≡ true
@@ -62,16 +68,14 @@ hex_digits (b ∷ bs) h =
 
 pub hex-is_hex : (bs : List ℕ) → AllBytes bs → is_hex (hex_of bs) ≡ true
 hex-is_hex bs h =
-    let even : length (hex_of bs) % 2 ≡ 0 = omega (arith, hex-length bs) in
+    let even : length (hex_of bs) % 2 ≡ 0 = omega (arith, hex_length bs) in
     and_both _ _ (eq-eqb (length (hex_of bs) % 2) 0 even) (hex_digits bs h)
 
 -- ---- a number in decimal digits
 
 digit-read : (m n : ℕ) (ds : List ℕ) → n < 10 → number_from 10 m (sign n ∷ ds) ≡ number_from 10 (m * 10 + n) ds
-unfolding number_from
-digit-read m n ds h =
-    let e : digit (sign n) ≡ n = sign_read n (omega arith) in
-    rw (lt-ltb (digit (sign n)) 10 (rw e h), number_from, e)
+unfolding number_from digit_in
+digit-read m n ds h = rw (sign_read n (omega arith), lt-ltb n 10 h)
 
 -- digits in front of others: the number, and what the others make of it
 digits_read : (k n : ℕ) (ds : List ℕ) → n < k → number_from 10 0 (decimal_in k n ++ ds) ≡ number_from 10 n ds
@@ -85,7 +89,7 @@ digits_read (suc k) n ds h =
     let whole : n / 10 * 10 + n % 10 ≡ n = omega arith in
     rw append_assoc (digits_read k (n / 10) (sign (n % 10) ∷ ds) (omega arith) ∙ digit-read (n / 10) (n % 10) ds (omega arith) ∙ rw whole))
 
-pub decimal-read : (n : ℕ) → number_of 10 (decimal n) ≡ Value n
+pub decimal-read : (n : ℕ) → number_of 10 (decimal n) ≡ Some n
 unfolding number_of decimal number_from
 decimal-read n = rw append-nil at (digits_read (n + 1) n [] (omega arith))
 
@@ -126,9 +130,9 @@ decimal-plain n h =
     let few : length (decimal n) ≤ 5 = digits_most 4 (n + 1) n (omega arith) in
     and_both _ _ (and_both _ _ (le-leb 1 (length (decimal n)) some) (le-leb (length (decimal n)) 5 few)) (decimal_front n)
 
-pub decimal-plain-read : (n : ℕ) → n ≤ most_number → plain_number (decimal n) ≡ Value n
-unfolding plain_number at_most
-decimal-plain-read n h = pick_true _ _ _ (decimal-plain n h) ∙ ap (at_most most_number) (decimal-read n) ∙ pick_true _ _ _ (le-leb n most_number h)
+pub decimal-plain-read : (n : ℕ) → n ≤ most_number → plain_number (decimal n) ≡ Some n
+unfolding plain_number
+decimal-plain-read n h = pick_true _ _ _ (decimal-plain n h) ∙ rw (decimal-read n, le-leb n most_number h)
 
 -- ---- a value in its line
 
@@ -198,7 +202,7 @@ starts-named (b ∷ name) behind = and_both _ _ (eq-eqb b b refl) (starts-named 
 
 -- a value is found at a place of a text, behind its name, and the part of the text there is the value
 pub record ReadBack (text : List ℕ) (at : ℕ) (name value : List ℕ) (stop : ℕ) : Type 0 where
-  pub found : value_at text at name stop ≡ At (at + length name) (at + length name + length value)
+  pub found : value_at text at name stop ≡ Some (at + length name, at + length name + length value)
   pub there : part text (at + length name) (at + length name + length value - (at + length name)) ≡ value
 
 module _ (stop : ℕ) (pre name value : List ℕ) (free : Without stop value) where
@@ -208,7 +212,7 @@ module _ (stop : ℕ) (pre name value : List ℕ) (free : Without stop value) wh
       record {
         found =
             pick_true _ _ _ (rw drop-append_seam (starts-named name (value ++ behind)))
-            ∙ ap (At (length pre + length name)) (rw (append_assoc, length-append) at (end_read (pre ++ name) value behind stop free ends));
+            ∙ ap (λ (e : ℕ). Some (length pre + length name, e)) (rw (append_assoc, length-append) at (end_read (pre ++ name) value behind stop free ends));
         there = rw (append_assoc, length-append) at (part-read (pre ++ name) value behind);
       }
 

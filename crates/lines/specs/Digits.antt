@@ -1,11 +1,11 @@
 -- Digits: names, numbers and bytes as the signs that stand for them. "hex is upper-case".
-use Rattle.std.specs.Prelude.{ℕ, zero, suc, ◌+◌, ◌-◌, ◌*◌, ◌/◌, ◌%◌, ◌<◌, Bool, true, false, not, ◌&&◌, ◌||◌, List, [], ◌∷◌, ◌++◌, length, leb, ltb, eqb}
+use Rattle.std.specs.Prelude.{ℕ, zero, suc, ◌+◌, ◌-◌, ◌*◌, ◌/◌, ◌%◌, Bool, true, false, not, ◌&&◌, ◌||◌, List, [], ◌∷◌, ◌++◌, length, leb, ltb, eqb, Option, Some, None, is_some, unwrap_or, option_and_then}
+use Rattle.std.specs.Bool.{then_some}
+use Rattle.std.specs.List.{list_all}
 use Prim.Native.Char.{code}
 use Prim.Native.String as text
 use Rattle.octets.specs.Choice.{pick}
 use Rattle.octets.specs.Bytes.{byte}
-use Rattle.lines.specs.declared.digits.Number.{Number}
-use Rattle.lines.specs.declared.digits.Number.TheVariants.{Value, Bad}
 
 -- the bytes of a text
 unfoldable pub ascii : text.String → List ℕ
@@ -16,23 +16,22 @@ ascii (text.◌∷◌ c rest) = code c ∷ ascii rest
 unfoldable pub sign : ℕ → ℕ
 sign n = pick (ltb n 10) (0x30 + n) (0x37 + n)
 
--- the number that a sign stands for, and 16 where it is no digit
-unfoldable pub digit : ℕ → ℕ
-digit b = pick (leb 0x30 b && leb b 0x39) (b - 0x30) (pick (leb 0x41 b && leb b 0x46) (b - 0x37) 16)
+-- the number that a sign stands for, and none where it is no digit
+unfoldable pub digit : ℕ → Option ℕ
+digit b = pick (leb 0x30 b && leb b 0x39) (Some (b - 0x30)) (pick (leb 0x41 b && leb b 0x46) (Some (b - 0x37)) None)
+
+-- the same in a base, and none where the number is not below it
+unfoldable pub digit_in : ℕ → ℕ → Option ℕ
+digit_in base b = option_and_then (λ d. then_some (ltb d base) d) (digit b)
 
 -- the number of a run of digits in a base, after digits whose number is `n`
-unfoldable pub number_from : ℕ → ℕ → List ℕ → Number
-number_from base n [] = Value n
-number_from base n (d ∷ ds) = elim (ltb (digit d) base) [ true ↦ number_from base (n * base + digit d) ds | false ↦ Bad ]
+unfoldable pub number_from : ℕ → ℕ → List ℕ → Option ℕ
+number_from base n [] = Some n
+number_from base n (b ∷ bs) = option_and_then (λ d. number_from base (n * base + d) bs) (digit_in base b)
 
 -- the number of a run of digits in a base, where each is one
-unfoldable pub number_of : ℕ → List ℕ → Number
+unfoldable pub number_of : ℕ → List ℕ → Option ℕ
 number_of base ds = number_from base 0 ds
-
--- what a number that was read promises: it is below a bound
-unfoldable pub NumberFits : ℕ → Number → Type 0
-NumberFits bound (Value n) = n < bound
-NumberFits bound Bad = Unit
 
 -- a number of the desk's programs: decimal, with no zero in front, and at most 65,535
 abbrev pub most_number : ℕ
@@ -41,32 +40,35 @@ most_number = 65535
 abbrev pub is_plain : List ℕ → Bool
 is_plain ds = (leb 1 (length ds) && leb (length ds) 5) && (eqb (length ds) 1 || not (eqb (byte ds 0) 0x30))
 
-unfoldable pub at_most : ℕ → Number → Number
-at_most most (Value n) = pick (leb n most) (Value n) Bad
-at_most most Bad = Bad
-
-unfoldable pub plain_number : List ℕ → Number
-plain_number ds = pick (is_plain ds) (at_most most_number (number_of 10 ds)) Bad
+unfoldable pub plain_number : List ℕ → Option ℕ
+plain_number ds = pick (is_plain ds) (option_and_then (λ n. then_some (leb n most_number) n) (number_of 10 ds)) None
 
 -- whether each of a run is a hex digit
 unfoldable pub all_hex : List ℕ → Bool
-all_hex [] = true
-all_hex (d ∷ ds) = ltb (digit d) 16 && all_hex ds
+all_hex ds = list_all (λ d. is_some (digit d)) ds
 
 -- hex digits in pairs
 abbrev pub is_hex : List ℕ → Bool
 is_hex ds = eqb (length ds % 2) 0 && all_hex ds
+
+-- the same, of which there are at most so many
+abbrev pub few_hex : ℕ → List ℕ → Bool
+few_hex most ds = leb (length ds) most && is_hex ds
 
 -- "0 to 16,384 hex digits, even in number"
 abbrev pub most_digits : ℕ
 most_digits = 16384
 
 unfoldable pub is_script : List ℕ → Bool
-is_script ds = leb (length ds) most_digits && is_hex ds
+is_script ds = few_hex most_digits ds
+
+-- the number of a hex digit; another sign counts 16
+abbrev pub hex_value : ℕ → ℕ
+hex_value b = unwrap_or (digit b) 16
 
 -- the byte of two hex digits
 abbrev pub pair : ℕ → ℕ → ℕ
-pair a b = digit a * 16 + digit b
+pair a b = hex_value a * 16 + hex_value b
 
 -- the bytes of pairs of hex digits
 unfoldable pub decoded : List ℕ → List ℕ

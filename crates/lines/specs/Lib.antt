@@ -1,3 +1,4 @@
 pub mod Digits
 pub mod Named
 pub mod Values
+pub mod Calls

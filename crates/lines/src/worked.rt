@@ -24,6 +24,6 @@ pub fn worked_files() -> [u8; 55]
     ensures { (result ≡ worked.files) × (55 ≡ length result) }
 {
     let mut files = [0xFFu8; 55];
-    octets::fill(&mut files, 29, 9, 0x00);
+    files[29..38].fill(0x00);
     files
 }

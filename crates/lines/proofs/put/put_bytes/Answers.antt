@@ -2,7 +2,7 @@
 use mathlib.Core.Path.{refl}
 use Prim.Native.Nat.{◌+◌, ◌*◌}
 use lib.ListN.{length, length-set}
-use Rattle.lines.proofs.Hex.{hex-length}
+use Rattle.lines.proofs.Hex.{hex_length}
 use Rattle.lines.proofs.Written.{put, named_put}
 use native.Mathlib.Omega.{arith}
 use Rattle.lines.proofs.put.put_bytes.Goals as goal
@@ -16,6 +16,6 @@ shape_of-out c = simp length-set (omega arith)
 pub returns : goal.returns
 returns c =
     let a = c.args in
-    let l = hex-length a.bytes.now in
+    let l = hex_length a.bytes.now in
     let w = named_put {r = a.at + length a.name.now + 2 * length a.bytes.now} a.last (put c.copy.ensures refl) (put c.put_hex.ensures (omega arith)) in
     (w.memory (omega arith), w.place, refl)
