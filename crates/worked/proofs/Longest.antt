@@ -16,97 +16,104 @@ use lib.Seq.{take_all}
 use borrow.Author.Tests.{ltb-false}
 use Rattle.octets.specs.Bytes.{part, starts_with}
 use Rattle.octets.proofs.Picks.{on_pick}
-use Rattle.lines.specs.declared.digits.Number.{Number}
-use Rattle.lines.specs.declared.digits.Number.TheVariants as number
-use Rattle.lines.specs.Digits.{ascii, number_of, is_script}
-use Rattle.lines.proofs.Hex.{script_short_lem}
-use Rattle.lines.specs.declared.values.Value.{Value}
-use Rattle.lines.specs.declared.values.Value.TheVariants as value
-use Rattle.lines.specs.declared.values.Field.{Field}
-use Rattle.lines.specs.declared.values.Field.TheVariants as field
+use Rattle.std.specs.Prelude.{Option, Some, None, IfSome, option_map, option_and_then}
+use Rattle.std.specs.Bool.{then_some}
+use mathlib.Core.Bool.{Bool, true, false}
+use Rattle.lines.specs.Digits.{ascii, number_of, few_hex, most_digits}
+use Rattle.lines.specs.declared.calls.Call.{Call}
 use Rattle.lines.specs.Named.{line_feed}
-use Rattle.lines.specs.Values.{value_end, value_at, before, number_in, number_at, then}
-use Rattle.worked.specs.declared.input.Input.{Input}
-use Rattle.worked.specs.declared.input.Input.TheVariants.{Run, Bad}
-use Rattle.worked.specs.Input.{script_in, script_at, run_of, input_of}
+use Rattle.lines.specs.Values.{value_end, value_at, before, number_in, number_at, hex_in, hex_at, then}
+use Rattle.lines.specs.Calls.{call_at}
+use Rattle.lines.proofs.Hex.{digits_few}
+use Rattle.worked.specs.declared.input.Asked.{Asked}
+use Rattle.worked.specs.Input.{script_in, script_at, input_of}
 use Rattle.worked.specs.Printed.{printed, bad_line}
 use Rattle.worked.proofs.Shape.{printed-bad}
 
--- behind a number that was read, the next line begins at the place k or before it
-abbrev NextBy : ℕ → Field → Type 0
-NextBy k (field.Value n next) = next ≤ k
-NextBy k field.Bad = Unit
+-- what holds of a value and of none holds of a value that is kept by a test
+on_some : {A : Type 0} (P : Option A → Type 0) (b : Bool) (x : A) → (b ≡ true → P (Some x)) → P None → P (then_some b x)
+on_some P true x h g = h refl
+on_some P false x h g = g
 
-before-by : (k place : ℕ) (n : Number) → place ≤ k → NextBy k (before place n)
+-- behind a number that was read, the next line begins at the place k or before it
+abbrev NextBy : ℕ → Option (ℕ × ℕ) → Type 0
+NextBy k field = IfSome field (λ (n, next). next ≤ k)
+
+before-by : (k place : ℕ) (n : Option ℕ) → place ≤ k → NextBy k (before place n)
 unfolding before
-before-by k place (number.Value n) h = h
-before-by k place number.Bad h = tt
+before-by k place (Some n) h = h
+before-by k place None h = tt
 
 module _ (bs : List ℕ) where
   -- a number of at most `most` digits
   module _ (base least most : ℕ) where
-    number_in-by : (from to : ℕ) → NextBy (from + most + 1) (number_in bs base least most (value.At from to))
+    number_in-by : (from to : ℕ) → NextBy (from + most + 1) (number_in bs base least most (from, to))
     unfolding number_in
     number_in-by from to =
-        let P : Field → Type 0 = NextBy (from + most + 1) in
+        let P : Option (ℕ × ℕ) → Type 0 = NextBy (from + most + 1) in
         on_pick P (ltb (to - from) least) _ _ (λ _. tt)
         (λ _. on_pick P (ltb most (to - from)) _ _ (λ _. tt)
         (λ few. before-by _ (to + 1) (number_of base (part bs from (to - from))) (omega (arith, ltb-false most (to - from) few))))
 
     number_by : (at : ℕ) (name : List ℕ) → NextBy (at + length name + most + 1) (number_at bs at name line_feed base least most)
-    unfolding number_at number_in value_at
+    unfolding number_at value_at
     number_by at name =
-        on_pick (λ l. NextBy (at + length name + most + 1) (number_in bs base least most l)) (starts_with (drop at bs) name) _ _
+        on_pick (λ (l : Option (ℕ × ℕ)). NextBy (at + length name + most + 1) (option_and_then (number_in bs base least most) l)) (starts_with (drop at bs) name) _ _
         (λ _. number_in-by (at + length name) (value_end line_feed bs (at + length name))) (λ _. tt)
 
-  -- where the script's digits were read, the input ends at the place k or before it
-  abbrev EndBy : ℕ → Value → Type 0
-  EndBy k (value.At from to) = length bs ≤ k
-  EndBy k value.Bad = Unit
+  then-by : {A : Type 0} {k : ℕ} (P : A → Type 0) (none : A) (f : Option (ℕ × ℕ)) (g : ℕ → ℕ → A) → NextBy k f → P none → ((n next : ℕ) → next ≤ k → P (g n next)) → P (then none f g)
+  unfolding then
+  then-by P none (Some field) g h missing go = go field.0 field.1 h
+  then-by P none None g h missing go = missing
 
-  script_in-by : (from to : ℕ) → EndBy (from + 16384 + 1) (script_in bs (value.At from to))
-  unfolding script_in
+  -- behind what a run is called with, the script's line begins
+  call_by : IfSome (call_at bs 0 (ascii "application=") line_feed) (λ (call, fourth). fourth ≤ 35)
+  unfolding call_at ascii
+  call_by =
+      let P : Option (Call × ℕ) → Type 0 = λ o. IfSome o (λ (call, fourth). fourth ≤ 35) in
+      then-by P None _ _ (number_by 10 1 3 0 (ascii "application=")) tt λ application second h₁.
+      then-by P None _ _ (number_by 16 2 2 second (ascii "domain=")) tt λ domain third h₂.
+      then-by P None _ _ (number_by 10 1 1 third (ascii "format=")) tt λ format fourth h₃. omega arith
+
+  -- where the script's digits were read, the input ends
+  script_in-by : (from to : ℕ) → IfSome (option_and_then (script_in bs) (hex_in bs most_digits (from, to))) (λ _. length bs ≤ from + 16384 + 1)
+  unfolding script_in hex_in
   script_in-by from to =
-      let P : Value → Type 0 = EndBy (from + 16384 + 1) in
-      on_pick P (ltb (to + 1) (length bs)) _ _ (λ _. tt)
-      (λ last. on_pick P (is_script (part bs from (to - from))) _ _
-      (λ script.
-      let d : min (to - from) (length bs - from) ≤ 16384 = simp (length-take, length-drop) at (script_short_lem (part bs from (to - from)) script) in
-      omega (arith, ltb-false (to + 1) (length bs) last))
-      (λ _. tt))
+      let P : Option (ℕ × ℕ) → Type 0 = λ o. IfSome o (λ _. length bs ≤ from + 16384 + 1) in
+      on_some (λ o. P (option_and_then (script_in bs) o)) (few_hex most_digits (part bs from (to - from))) (from, to)
+      (λ few. on_pick P (ltb (to + 1) (length bs)) _ _ (λ _. tt)
+      (λ last.
+      let d : min (to - from) (length bs - from) ≤ 16384 = simp (length-take, length-drop) at (digits_few most_digits (part bs from (to - from)) few) in
+      omega (arith, ltb-false (to + 1) (length bs) last)))
+      tt
 
-  script-by : (at : ℕ) → EndBy (at + 7 + 16384 + 1) (script_at bs at)
-  unfolding script_at script_in value_at ascii
+  script-by : (at : ℕ) → IfSome (script_at bs at) (λ _. length bs ≤ at + 7 + 16384 + 1)
+  unfolding script_at hex_at value_at ascii
   script-by at =
-      on_pick (λ l. EndBy (at + 7 + 16384 + 1) (script_in bs l)) (starts_with (drop at bs) (ascii "script=")) _ _
+      on_pick (λ (l : Option (ℕ × ℕ)). IfSome (option_and_then (script_in bs) (option_and_then (hex_in bs most_digits) l)) (λ _. length bs ≤ at + 7 + 16384 + 1))
+      (starts_with (drop at bs) (ascii "script=")) _ _
       (λ _. script_in-by (at + 7) (value_end line_feed bs (at + 7))) (λ _. tt)
 
   -- an input that asks for a run
-  abbrev Short : Input → Type 0
-  Short (Run call) = length bs ≤ 16427
-  Short Bad = Unit
+  abbrev Short : Option Asked → Type 0
+  Short asked = IfSome asked (λ _. length bs ≤ 16427)
 
-  then-short : {k : ℕ} (f : Field) (g : ℕ → ℕ → Input) → NextBy k f → ((n next : ℕ) → next ≤ k → Short (g n next)) → Short (then Bad f g)
-  unfolding then
-  then-short (field.Value n next) g h go = go n next h
-  then-short field.Bad g h go = tt
+  ends_short : {k : ℕ} (call : Call) (s : Option (ℕ × ℕ)) → IfSome s (λ _. length bs ≤ k) → k ≤ 16427 → Short (option_map (λ (from, to). record { call = call; from = from; to = to }) s)
+  ends_short call (Some v) h e = omega arith
+  ends_short call None h e = tt
 
-  run_short : {k : ℕ} (application domain format : ℕ) (l : Value) → EndBy k l → k ≤ 16427 → Short (run_of application domain format l)
-  unfolding run_of
-  run_short application domain format (value.At from to) h e = omega arith
-  run_short application domain format value.Bad h e = tt
+  begins_short : (o : Option (Call × ℕ)) → IfSome o (λ (call, fourth). fourth ≤ 35)
+      → Short (option_and_then (λ (call, fourth). option_map (λ (from, to). record { call = call; from = from; to = to }) (script_at bs fourth)) o)
+  begins_short (Some c) h = ends_short c.0 (script_at bs c.1) (script-by c.1) (omega arith)
+  begins_short None h = tt
 
   longest : Short (input_of bs)
-  unfolding input_of ascii
-  longest =
-      then-short _ _ (number_by 10 1 3 0 (ascii "application=")) λ application second h₁.
-      then-short _ _ (number_by 16 2 2 second (ascii "domain=")) λ domain third h₂.
-      then-short _ _ (number_by 10 1 1 third (ascii "format=")) λ format fourth h₃.
-      run_short application domain format _ (script-by fourth) (omega arith)
+  unfolding input_of
+  longest = begins_short (call_at bs 0 (ascii "application=") line_feed) call_by
 
-  too_long : (i : Input) → Short i → 16427 < length bs → i ≡ Bad
-  too_long (Run call) e h = absurd (omega arith)
-  too_long Bad e h = refl
+  too_long : (a : Option Asked) → Short a → 16427 < length bs → a ≡ None
+  too_long (Some a) e h = absurd (omega arith)
+  too_long None e h = refl
 
   printed_long : 16427 < length bs → printed bs ≡ bad_line
   printed_long h = printed-bad bs (too_long (input_of bs) longest h)

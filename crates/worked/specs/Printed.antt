@@ -1,15 +1,14 @@
 -- What the program prints. "refusal is the call number, executed the count, response the answer, used U and scripts byte 2 after
 -- the run."
-use Rattle.std.specs.Prelude.{ℕ, ◌+◌, ◌*◌, ◌-◌, List, [], ◌∷◌, ◌++◌}
+use Rattle.std.specs.Prelude.{ℕ, ◌+◌, ◌*◌, ◌-◌, List, [], ◌∷◌, ◌++◌, Option, Some, None}
 use Rattle.octets.specs.Bytes.{part, zeros}
 use Rattle.journal.specs.Entries.{used_bytes, scripts_on_trial}
 use Rattle.engine.specs.Calls.{Result, run}
 use Rattle.engine.specs.Worked.{worked, lent_response, answer_of}
 use Rattle.lines.specs.Digits.{ascii, decoded, hex_of, decimal}
 use Rattle.lines.specs.Named.{line_feed, named}
-use Rattle.worked.specs.declared.input.Call.{Call}
-use Rattle.worked.specs.declared.input.Input.{Input}
-use Rattle.worked.specs.declared.input.Input.TheVariants.{Run, Bad}
+use Rattle.lines.specs.declared.calls.Call.{Call}
+use Rattle.worked.specs.declared.input.Asked.{Asked}
 use Rattle.worked.specs.Input.{input_of}
 
 -- the five lines
@@ -48,9 +47,9 @@ unfoldable pub bad_line : List ℕ
 bad_line = ascii "input=bad" ++ (line_feed ∷ [])
 
 -- what is printed for each kind of input
-unfoldable pub lines_for : List ℕ → Input → List ℕ
-lines_for bs (Run call) = result_lines (ran_on call (decoded (part bs call.from (call.to - call.from))))
-lines_for bs Bad = bad_line
+unfoldable pub lines_for : List ℕ → Option Asked → List ℕ
+lines_for bs (Some a) = result_lines (ran_on a.call (decoded (part bs a.from (a.to - a.from))))
+lines_for bs None = bad_line
 
 -- what the program prints for what it reads
 unfoldable pub printed : List ℕ → List ℕ

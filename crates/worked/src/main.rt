@@ -9,7 +9,7 @@ ghost use Rattle.std.specs.Prelude.{◌≡◌, ◌≤◌, length};
 ghost use Rattle.octets.specs.Bytes.{overwrite};
 ghost use Rattle.worked.specs.Printed.{most_printed, printed};
 
-use input::Input;
+use input::MOST_DIGITS;
 use lines::worked::LENT_RESPONSE;
 use std::io;
 use streams::read_full;
@@ -25,14 +25,13 @@ fn print(input: &[u8], out: &mut [u8]) -> usize
     requires { most_printed ≤ length out.old }
     ensures { (out.new ≡ overwrite out.old 0 (printed input.now)) × (result ≡ length (printed input.now)) × (result ≤ most_printed) }
 {
-    let Input::Run(call) = input::input_of(input) else {
+    let Some(asked) = input::input_of(input) else {
         return output::put_bad(out);
     };
-    let from = call.from;
-    let to = call.to;
-    let mut script = [0u8; 8192];
-    let n = lines::digits::decode(&input[from..to], &mut script);
-    runs::put_run(call, &script[..n], out)
+    let digits = &input[asked.from..asked.to];
+    let mut script = [0u8; MOST_DIGITS / 2];
+    let n = lines::digits::decode(digits, &mut script);
+    runs::put_run(asked.call, &script[..n], out)
 }
 
 // Reads standard input, and writes what is printed for it.

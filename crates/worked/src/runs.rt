@@ -3,9 +3,9 @@ ghost use Rattle.std.specs.Prelude.{◌≡◌, ◌≤◌, length};
 ghost use Rattle.octets.specs.Bytes.{overwrite};
 ghost use Rattle.worked.specs.Printed.{most_printed, ran_on, result_lines};
 
-use crate::input::Call;
 use crate::output::put_lines;
 use journal::JOURNAL_LENGTH;
+use lines::calls::Call;
 use lines::worked::{LENT_RESPONSE, worked_files, worked_table};
 
 // Runs a script on the worked card, and puts the run's five lines at the start of `out`. Returns the place after them.
