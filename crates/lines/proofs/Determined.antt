@@ -12,6 +12,7 @@ use Rattle.lines.proofs.values.value_at.Reads as value-at
 use Rattle.lines.proofs.values.number_at.Reads as number_at
 use Rattle.lines.proofs.values.hex_at.Reads as hex-at
 use Rattle.lines.proofs.calls.call_at.Reads as call-at
+use Rattle.lines.proofs.worked.run_on_worked.Reads as run-on-worked
 use Rattle.lines.proofs.worked.worked_table.Reads as worked-table
 use Rattle.lines.proofs.worked.worked_files.Reads as worked-files
 
@@ -54,3 +55,6 @@ module _ (κs : Lfts 2) where
 module _ (κs : Lfts 3) where
   pub put_bytes_determined : Determined (put-bytes.Learnt κs) (λ args a e. pair a e.0.now)
   put_bytes_determined = by_equation (λ args a e h. both h.1 h.0)
+
+  pub run_on_worked_determined : Determined (run-on-worked.Learnt κs) (λ args a e. pair a (pair e.1.1.0.now e.1.1.1.0.now))
+  run_on_worked_determined = by_equation (λ args a e h. both h.0 (both h.1.0 h.1.1.0))

@@ -104,6 +104,10 @@ module _ (bs m : List ℕ) (at i : ℕ) where
       ∙ write-first m (at + 2 * i) u (v ∷ hex_of (drop (i + 1) bs)) (omega arith)
       ∙ ap (overwrite m (at + 2 * i)) ((λ j. e j ∷ f j ∷ hex_of (drop (i + 1) bs)) ∙ sym (signs_next h))
 
+-- at most so many hex digits in pairs stand for half as many bytes
+pub digits_bytes : (most : ℕ) (ds : List ℕ) → few_hex most ds ≡ true → 2 * length (decoded ds) ≤ most
+digits_bytes most ds few = omega (arith, bytes_length ds, digits_few most ds few)
+
 -- digits that were found
 module _ {bs : List ℕ} {most from to : ℕ} (lies : HexLies bs most from to) where
   pub found_few : length (part bs from (to - from)) ≤ most
@@ -113,6 +117,6 @@ module _ {bs : List ℕ} {most from to : ℕ} (lies : HexLies bs most from to) w
   found_hex = digits_hex most (part bs from (to - from)) lies.digits
 
   pub found_bytes : 2 * length (decoded (part bs from (to - from))) ≤ most
-  found_bytes = omega (arith, bytes_length (part bs from (to - from)), found_few)
+  found_bytes = digits_bytes most (part bs from (to - from)) lies.digits
 
 pub ruleset pairs = (hex_here, hex_rest, pair_rest, bytes_end, bytes_length)

@@ -1,5 +1,8 @@
--- What the lines call a run with: "1 to 3 decimal digits, two hex digits, one decimal digit".
+-- What the lines call a run with, and the run on the worked card: "1 to 3 decimal digits, two hex digits, one decimal digit".
 use Rattle.std.specs.Prelude.{ℕ, List, Option, Some, None}
+use Rattle.card.specs.Row.{lent}
+use Rattle.engine.specs.Calls.{Result, run}
+use Rattle.engine.specs.Worked.{worked}
 use Rattle.lines.specs.Digits.{ascii}
 use Rattle.lines.specs.Values.{number_at, then}
 use Rattle.lines.specs.declared.calls.Call.{Call}
@@ -11,3 +14,16 @@ call_at bs at name stop =
     then None (number_at bs second (ascii "domain=") stop 16 2 2) λ domain third.
     then None (number_at bs third (ascii "format=") stop 10 1 1) λ format next.
     Some (record { application = application; domain = domain; format = format }, next)
+
+-- a run of a script on the worked card with another journal
+unfoldable pub run_on_worked : Call → List ℕ → List ℕ → List ℕ → Result
+run_on_worked call script response journal =
+    run
+    (record {
+      application = call.application;
+      domain = call.domain;
+      format = call.format;
+      script = script;
+      response = response;
+    })
+    (lent worked.table worked.files journal)

@@ -1,8 +1,11 @@
 // The worked card.
-ghost use Rattle.std.specs.Prelude.{◌≡◌, length};
+ghost use Rattle.std.specs.Prelude.{◌≡◌, ◌≤◌, length};
 ghost use Rattle.engine.specs.Worked.{worked};
+ghost use Rattle.lines.specs.Calls as spec;
 
+use crate::calls::Call;
 use crate::digits::decode;
+use engine::Answer;
 
 // How many bytes of response memory the programs lend to a run on the worked card.
 pub const LENT_RESPONSE: usize = 1024;
@@ -26,4 +29,26 @@ pub fn worked_files() -> [u8; 55]
     let mut files = [0xFFu8; 55];
     files[29..38].fill(0x00);
     files
+}
+
+// Runs a script on the worked card with a journal in place of its own. Returns the number, the answer's length and the count of commands; the
+// answer is at the start of `response`.
+pub fn run_on_worked(call: Call, script: &[u8], response: &mut [u8], journal: &mut [u8]) -> Answer
+    ensures answer { result ≡ (spec.run_on_worked call script.now response.old journal.old).answer }
+    ensures response { response.new ≡ (spec.run_on_worked call script.now response.old journal.old).response }
+    ensures journal { journal.new ≡ (spec.run_on_worked call script.now response.old journal.old).card.journal }
+    ensures length { result.length ≤ length response.old }
+{
+    let mut table = worked_table();
+    let mut files = worked_files();
+    engine::run(
+        call.application,
+        call.domain,
+        call.format,
+        script,
+        response,
+        &mut table,
+        &mut files,
+        journal,
+    )
 }
