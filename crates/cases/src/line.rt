@@ -5,12 +5,13 @@ ghost use Rattle.journal.specs.Entries.{used_bytes};
 ghost use Rattle.journal.specs.Sound.{journal_length};
 ghost use Rattle.cases.specs.Cases as spec;
 
-use crate::input::{Asked, case_of};
+use crate::input::case_of;
 use engine::LONGEST_SCRIPT;
 use journal::JOURNAL_LENGTH;
+use lines::calls::Call;
 use lines::digits::decode;
 use lines::put::{put_bytes, put_number};
-use lines::worked::{LENT_RESPONSE, worked_files, worked_table};
+use lines::worked::{LENT_RESPONSE, run_on_worked};
 
 // Puts a label and four values at the start of `out`. Returns how many bytes they have.
 fn put_labelled(
@@ -37,38 +38,16 @@ fn in_use(journal: &[u8]) -> usize
     ensures { (result ≡ min (4 + used_bytes journal.now) (length journal.now)) × (result ≤ length journal.now) }
 {
     let n = 4 + journal::read::head_of(journal).used;
-    if journal.len() < n {
-        return journal.len();
-    }
-    n
+    n.min(journal.len())
 }
 
 // Runs a script on the worked card with another journal, and puts the run's line at the start of `out`. Returns how many bytes it has.
-fn put_run(
-    out: &mut [u8],
-    label: &[u8],
-    application: usize,
-    domain: u8,
-    format: u8,
-    journal: &mut [u8],
-    script: &[u8],
-) -> usize
+fn put_run(out: &mut [u8], label: &[u8], call: Call, journal: &mut [u8], script: &[u8]) -> usize
     requires { (spec.most_in_line ≤ length out.old) × (length label.now ≤ spec.longest_label) × (length journal.old ≡ journal_length) }
-    ensures { (out.new ≡ overwrite out.old 0 (spec.run_line label.now (spec.ran_on application domain format journal.old script.now))) × (result ≡ length (spec.run_line label.now (spec.ran_on application domain format journal.old script.now))) × (result ≤ spec.most_in_line) }
+    ensures { (out.new ≡ overwrite out.old 0 (spec.run_line label.now (spec.ran_on call journal.old script.now))) × (result ≡ length (spec.run_line label.now (spec.ran_on call journal.old script.now))) × (result ≤ spec.most_in_line) }
 {
-    let mut table = worked_table();
-    let mut files = worked_files();
     let mut response = [0u8; LENT_RESPONSE];
-    let answer = engine::run(
-        application,
-        domain,
-        format,
-        script,
-        &mut response,
-        &mut table,
-        &mut files,
-        journal,
-    );
+    let answer = run_on_worked(call, script, &mut response, journal);
     let n = answer.length;
     let k = in_use(journal);
     put_labelled(
@@ -82,31 +61,15 @@ fn put_run(
 }
 
 // Puts the line of a case at the start of `out`. Returns how many bytes it has.
-fn put_case(
-    out: &mut [u8],
-    label: &[u8],
-    application: usize,
-    domain: u8,
-    format: u8,
-    journal: &[u8],
-    script: &[u8],
-) -> usize
+fn put_case(out: &mut [u8], label: &[u8], call: Call, journal: &[u8], script: &[u8]) -> usize
     requires { (spec.most_in_line ≤ length out.old) × (spec.is_case label.now journal.now script.now ≡ true) }
-    ensures { (out.new ≡ overwrite out.old 0 (spec.case_line label.now application domain format journal.now script.now)) × (result ≡ length (spec.case_line label.now application domain format journal.now script.now)) × (result ≤ spec.most_in_line) }
+    ensures { (out.new ≡ overwrite out.old 0 (spec.case_line label.now call journal.now script.now)) × (result ≡ length (spec.case_line label.now call journal.now script.now)) × (result ≤ spec.most_in_line) }
 {
     let mut journal_bytes = [0u8; JOURNAL_LENGTH];
     decode(journal, &mut journal_bytes);
     let mut script_bytes = [0u8; LONGEST_SCRIPT];
     let n = decode(script, &mut script_bytes);
-    put_run(
-        out,
-        label,
-        application,
-        domain,
-        format,
-        &mut journal_bytes,
-        &script_bytes[..n],
-    )
+    put_run(out, label, call, &mut journal_bytes, &script_bytes[..n])
 }
 
 // Puts what is printed of a line at the start of `out`: the line of its case, or that it has not the shape of one. Returns how many
@@ -115,22 +78,15 @@ pub fn put_line(out: &mut [u8], line: &[u8]) -> usize
     requires { spec.most_in_line ≤ length out.old }
     ensures { (out.new ≡ overwrite out.old 0 (spec.printed line.now)) × (result ≡ length (spec.printed line.now)) × (result ≤ spec.most_in_line) }
 {
-    let Asked::Run(case) = case_of(line) else {
+    let Some(case) = case_of(line) else {
         octets::copy(out, 0, b"case=bad\n");
         return 9;
     };
-    let label = case.label;
-    let journal = case.journal;
-    let journal_end = case.journal_end;
-    let script = case.script;
-    let script_end = case.script_end;
     put_case(
         out,
-        &line[..label],
-        case.application,
-        case.domain,
-        case.format,
-        &line[journal..journal_end],
-        &line[script..script_end],
+        &line[..case.label],
+        case.call,
+        &line[case.journal..case.journal_end],
+        &line[case.script..case.script_end],
     )
 }

@@ -5,7 +5,6 @@ mod input;
 mod line;
 
 use journal::JOURNAL_LENGTH;
-use lines::values::value_end;
 use lines::worked::LENT_RESPONSE;
 use std::io;
 use streams::read_full;
@@ -31,11 +30,8 @@ fn show(rt: &impl Print, line: &[u8]) -> io::Result<()> {
 
 // Prints what there is of each line.
 fn show_lines(rt: &impl Print, input: &[u8]) -> io::Result<()> {
-    let mut at: usize = 0;
-    while at < input.len() {
-        let end = value_end(input, at, b'\n');
-        show(rt, &input[at..end])?;
-        at = end + 1;
+    for line in input.split(|b| *b == b'\n') {
+        show(rt, line)?;
     }
     Ok(())
 }

@@ -4,11 +4,10 @@
 use mathlib.Core.Path.{sym, ap, ◌∙◌}
 use native.Mathlib.Omega.{arith}
 use lib.ListN.{length}
-use lib.Seq.{length-take-le}
 use Rattle.octets.specs.Bytes.{overwrite}
 use Rattle.lines.specs.Digits.{ascii}
 use Rattle.cases.specs.Cases.{printed_of}
-use Rattle.cases.proofs.Shape.{journal_lies, script_lies, case_shaped, case_lies, printed-bad, printed-case}
+use Rattle.cases.proofs.Shape.{case_shaped, printed-bad, printed-case}
 use Rattle.cases.proofs.line.put_line.Goals as goal
 
 pub returns-in_default : goal.returns-in_default
@@ -17,48 +16,11 @@ returns-in_default c =
     let e = printed-bad _ c.case_of.ensures.0 c.in_default.is in
     (c.copy.ensures ∙ ap (overwrite c.args.out.now 0) (sym e), sym (ap length e), omega arith)
 
-pub slice_bounds-put_case-end : goal.slice_bounds-put_case-end
-slice_bounds-put_case-end c =
-    let fits = case_lies _ _ c.in-Run.is c.case_of.ensures.1 in
-    sym (length-take-le _ _ fits.labelled)
-
-pub slice_bounds-put_case-count : goal.slice_bounds-put_case-count
-slice_bounds-put_case-count c =
-    let fits = case_lies _ _ c.in-Run.is c.case_of.ensures.1 in
-    omega (arith, (journal_lies _ _ fits).0)
-
-pub slice_bounds-put_case-start : goal.slice_bounds-put_case-start
-slice_bounds-put_case-start c =
-    let fits = case_lies _ _ c.in-Run.is c.case_of.ensures.1 in
-    (journal_lies _ _ fits).0
-
-pub slice_bounds-put_case-end-2 : goal.slice_bounds-put_case-end-2
-slice_bounds-put_case-end-2 c =
-    let fits = case_lies _ _ c.in-Run.is c.case_of.ensures.1 in
-    (journal_lies _ _ fits).1
-
-pub slice_bounds-put_case-count-2 : goal.slice_bounds-put_case-count-2
-slice_bounds-put_case-count-2 c =
-    let fits = case_lies _ _ c.in-Run.is c.case_of.ensures.1 in
-    omega (arith, (script_lies _ _ fits).0)
-
-pub slice_bounds-put_case-start-2 : goal.slice_bounds-put_case-start-2
-slice_bounds-put_case-start-2 c =
-    let fits = case_lies _ _ c.in-Run.is c.case_of.ensures.1 in
-    (script_lies _ _ fits).0
-
-pub slice_bounds-put_case-end-3 : goal.slice_bounds-put_case-end-3
-slice_bounds-put_case-end-3 c =
-    let fits = case_lies _ _ c.in-Run.is c.case_of.ensures.1 in
-    (script_lies _ _ fits).1
-
 pub put_case-requires : goal.put_case-requires
-put_case-requires c =
-    let fits = case_lies _ _ c.in-Run.is c.case_of.ensures.1 in
-    (omega arith, case_shaped _ _ fits)
+put_case-requires c = (omega arith, case_shaped _ _ c.in-Some.ensures.1)
 
 pub returns : goal.returns
 returns c =
-    let e = printed-case _ _ c.case_of.ensures.0 c.in-Run.is in
+    let e = printed-case _ _ c.case_of.ensures.0 c.in-Some.is in
     let p = c.put_case.ensures in
     (p.0 ∙ ap (overwrite c.args.out.now 0) e, p.1 ∙ ap length e, p.2)
