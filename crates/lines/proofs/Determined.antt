@@ -13,15 +13,6 @@ use Rattle.lines.proofs.values.number_at.Reads as number_at
 use Rattle.lines.proofs.values.hex_at.Reads as hex-at
 use Rattle.lines.proofs.calls.call_at.Reads as call-at
 use Rattle.lines.proofs.worked.run_on_worked.Reads as run-on-worked
-use Rattle.lines.proofs.worked.worked_table.Reads as worked-table
-use Rattle.lines.proofs.worked.worked_files.Reads as worked-files
-
-module _ (κs : Lfts 0) where
-  pub worked_table_determined : Determined (worked-table.Learnt κs) (λ args a e. a)
-  worked_table_determined = by_equation (λ args a e h. h.0)
-
-  pub worked_files_determined : Determined (worked-files.Learnt κs) (λ args a e. a)
-  worked_files_determined = by_equation (λ args a e h. h.0)
 
 module _ (κs : Lfts 1) where
   pub value_end_determined : Determined (value-end.Learnt κs) (λ args a e. a)

@@ -7,6 +7,7 @@ use mathlib.Core.Path.{◌≡◌, refl, sym, ap, ◌∙◌}
 use mathlib.Core.Bool.{true, ◌&&◌}
 use mathlib.Core.List.{List, [], ◌∷◌}
 use Prim.Native.Nat.{ℕ, ◌+◌, ◌-◌, ◌*◌, ◌/◌, ◌%◌, ◌≤◌, ◌<◌}
+use native.Mathlib.Nat.{le_refl}
 use native.Mathlib.Numerals.{add-one}
 use native.Mathlib.Omega.{arith}
 use lib.Dec.{leb, eqb}
@@ -34,6 +35,11 @@ module _ (ds : List ℕ) (i : ℕ) (inside : i < length ds) where
 
   pub hex_rest : all_hex (drop i ds) ≡ true → all_hex (drop (i + 1) ds) ≡ true
   hex_rest hex = and_right (is_some (digit (byte ds i))) _ (sym hex-next ∙ hex)
+
+-- what is left at the end are no digits
+pub no_digits : (ds : List ℕ) → all_hex (drop (length ds) ds) ≡ true
+unfolding all_hex
+no_digits ds = rw (drop_of_length-le ds (le_refl (length ds)))
 
 -- at most so many hex digits in pairs
 module _ (most : ℕ) (ds : List ℕ) (few : few_hex most ds ≡ true) where

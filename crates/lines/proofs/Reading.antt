@@ -32,16 +32,6 @@ module _ (stop : ℕ) (bs : List ℕ) (at : ℕ) where
   unfolding value_end up_to
   value_ends h = rw (drop_of_length-le bs h, add-zero)
 
--- the value at a place, by whether the name stands there
-module _ (bs : List ℕ) (at : ℕ) (name : List ℕ) (stop : ℕ) where
-  pub value_missing : starts_with (drop at bs) name ≡ false → None ≡ value_at bs at name stop
-  unfolding value_at
-  value_missing e = sym (pick-false _ _ _ e)
-
-  pub value-named : starts_with (drop at bs) name ≡ true → Some (at + length name, value_end stop bs (at + length name)) ≡ value_at bs at name stop
-  unfolding value_at
-  value-named e = sym (pick_true _ _ _ e)
-
 -- a number of few digits
 pub few_digits : (bs : List ℕ) (from to base most n : ℕ) → from ≤ to → to ≤ length bs → to - from ≤ most → 1 ≤ base → n < base ^ length (part bs from (to - from)) → n < base ^ most
 few_digits bs from to base most n order inside few least small =

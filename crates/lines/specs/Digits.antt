@@ -59,9 +59,6 @@ few_hex most ds = leb (length ds) most && is_hex ds
 abbrev pub most_digits : ℕ
 most_digits = 16384
 
-unfoldable pub is_script : List ℕ → Bool
-is_script ds = few_hex most_digits ds
-
 -- the number of a hex digit; another sign counts 16
 abbrev pub hex_value : ℕ → ℕ
 hex_value b = unwrap_or (digit b) 16

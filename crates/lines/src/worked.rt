@@ -11,7 +11,7 @@ use engine::Answer;
 pub const LENT_RESPONSE: usize = 1024;
 
 // Returns the table: its seven entries.
-pub fn worked_table() -> [u8; 112]
+fn worked_table() -> [u8; 112]
     ensures { (result ≡ worked.table) × (112 ≡ length result) }
 {
     let mut table = [0u8; 112];
@@ -23,7 +23,7 @@ pub fn worked_table() -> [u8; 112]
 }
 
 // Returns the file memory: the cyclic file's nine bytes are 00, all others FF.
-pub fn worked_files() -> [u8; 55]
+fn worked_files() -> [u8; 55]
     ensures { (result ≡ worked.files) × (55 ≡ length result) }
 {
     let mut files = [0xFFu8; 55];
