@@ -3,41 +3,39 @@
 -- its bytes do (`Going`). A round puts the row and the bytes behind those that were read (`goes_on_lem`); a line that is not as asked ends
 -- the list (`fails`), and so does the end of the text (`ends`). Assumes nothing.
 use mathlib.Core.Path.{◌≡◌, refl, sym, ap, ◌∙◌}
-use mathlib.Core.Bool.{true}
 use mathlib.Core.List.{List, [], ◌++◌}
 use Prim.Native.Nat.{ℕ, zero, suc, ◌+◌, ◌-◌, ◌*◌, ◌≤◌, ◌<◌}
 use native.Mathlib.Nat.{add-zero}
 use native.Mathlib.Numerals.{add-one}
 use native.Mathlib.Omega.{arith}
-use lib.ListN.{length, take, drop, length-drop, length-take}
-use lib.Seq.{take_all, length-take-le}
+use lib.ListN.{length, take, drop, length-drop}
+use lib.Seq.{length-take-le}
 use borrow.Author.Tests.{lt-ltb, le-ltb}
 use Rattle.octets.specs.Bytes.{bytes2, part, overwrite}
-use Rattle.octets.proofs.Writes.{part_length, part-part, write-length, take_through, write_in-part}
-use Rattle.lines.specs.Digits.{all_hex, decoded}
+use Rattle.octets.proofs.Writes.{part_length, write-length, take_through, write_in-part}
+use Rattle.lines.specs.Digits.{decoded}
 use Rattle.lines.specs.Named.{line_feed}
 use Rattle.lines.specs.Values.{value_end}
-use Rattle.lines.proofs.Hex.{bytes-length}
+use Rattle.lines.proofs.Hex.{bytes_length}
 use Rattle.operations.specs.Rows.{row_size}
 use Rattle.desk.specs.declared.asking.Asking.{Asking}
-use Rattle.desk.specs.declared.asking.Line.{Line}
-use Rattle.desk.specs.declared.asking.Line.TheVariants.{Asks, Bad}
+use Rattle.std.specs.Prelude.{Option, Some, None, Ok, Err}
 use Rattle.desk.specs.Asking.{line_of}
-use Rattle.desk.specs.Lists.{line_at, row_of, Listed, listed, bad_line, list_from, most_text}
+use Rattle.desk.specs.Lists.{line_at, row_of, Listed, list_from, most_text}
 use Rattle.desk.specs.Promised.{AskingFits, LineFits, room_for_rows, room_for_data}
 
 -- ---- the definition, line by line
 
 module _ (n : ℕ) (text : List ℕ) (at number : ℕ) (rows «data» : List ℕ) where
-  list_ends : length text ≤ at → list_from (suc n) text at number rows «data» ≡ listed rows «data»
+  list_ends : length text ≤ at → list_from (suc n) text at number rows «data» ≡ Ok (rows, «data»)
   unfolding list_from
   list_ends h = rw (le-ltb at (length text) h, list_from)
 
-  list-fails : at < length text → line_of (line_at text at) ≡ Bad → list_from (suc n) text at number rows «data» ≡ bad_line number
+  list-fails : at < length text → line_of (line_at text at) ≡ None → list_from (suc n) text at number rows «data» ≡ Err number
   unfolding list_from
   list-fails h e = rw (lt-ltb at (length text) h, list_from, e)
 
-  list-goes_on : (a : Asking) → at < length text → line_of (line_at text at) ≡ Asks a
+  list-goes_on : (a : Asking) → at < length text → line_of (line_at text at) ≡ Some a
       → list_from (suc n) text at number rows «data» ≡ list_from n text (value_end line_feed text at + 1) (number + 1) (rows ++ row_of a (length «data»)) («data» ++ decoded (drop a.from (line_at text at)))
   unfolding list_from
   list-goes_on a h e = rw (lt-ltb at (length text) h, list_from, e)
@@ -48,7 +46,7 @@ pub record Left (text : List ℕ) (whole : Listed) (at number : ℕ) (rows «dat
   pub enough : length text ≤ at + lines
   pub rest : list_from (suc lines) text at number rows «data» ≡ whole
 
-left-goes_on : (text : List ℕ) (whole : Listed) (at number : ℕ) (rows «data» : List ℕ) (a : Asking) (lines : ℕ) → at < length text → length text ≤ at + lines → line_of (line_at text at) ≡ Asks a
+left-goes_on : (text : List ℕ) (whole : Listed) (at number : ℕ) (rows «data» : List ℕ) (a : Asking) (lines : ℕ) → at < length text → length text ≤ at + lines → line_of (line_at text at) ≡ Some a
     → list_from (suc lines) text at number rows «data» ≡ whole
     → Left text whole (value_end line_feed text at + 1) (number + 1) (rows ++ row_of a (length «data»)) («data» ++ decoded (drop a.from (line_at text at)))
 unfolding value_end
@@ -81,19 +79,6 @@ begins text rows «data» first place r d =
       data_room = d;
     }
 
--- an operation that a line asks for
-pub asking_lies : (line : List ℕ) {a : Asking} {l : Line} → l ≡ Asks a → LineFits line l → AskingFits line a
-unfolding LineFits
-asking_lies line e fits = rw e at fits
-
--- the end of a line, lent from the text
-pub line_rest : (text : List ℕ) (at end from : ℕ) → from ≤ end - at → part text (at + from) (end - (at + from)) ≡ drop from (part text at (end - at))
-line_rest text at end from h =
-    let e : end - (at + from) ≡ end - at - from = omega arith in
-    ap (part text (at + from)) e
-    ∙ sym (part-part text at (end - at) from (end - at - from) (omega arith))
-    ∙ take_all (end - at - from) (drop from (part text at (end - at))) (simp (length-drop, length-take) (omega arith))
-
 row-length : (a : Asking) (from : ℕ) → length (row_of a from) ≡ row_size
 unfolding row_of bytes2
 row-length a from = refl
@@ -105,37 +90,42 @@ pub record Asked (text : List ℕ) (at end : ℕ) (a : Asking) : Type 0 where
   pub is : end ≡ value_end line_feed text at
   pub order : at ≤ end
   pub last : end ≤ length text
-  pub asks : line_of (part text at (end - at)) ≡ Asks a
+  pub asks : line_of (part text at (end - at)) ≡ Some a
   pub fits : AskingFits (part text at (end - at)) a
+
+pub asked : {text : List ℕ} {at end : ℕ} {a : Asking} {o : Option Asking} → length text ≤ most_text + 1 → at < length text
+    → (end ≡ value_end line_feed text at) × (at ≤ end) × (end ≤ length text)
+    → (o ≡ line_of (part text at (end - at))) × LineFits (part text at (end - at)) o → o ≡ Some a → Asked text at end a
+asked short inside ends is e =
+    record {
+      short = short;
+      inside = inside;
+      is = ends.0;
+      order = ends.1;
+      last = ends.2;
+      asks = sym is.0 ∙ e;
+      fits = rw e at is.1;
+    }
 
 -- the digits of its bytes
 module _ {text : List ℕ} {at end : ℕ} {a : Asking} (q : Asked text at end a) where
   abbrev digits : List ℕ
-  digits = part text (at + a.from) (end - (at + a.from))
+  digits = drop a.from (part text at (end - at))
 
   long : length (part text at (end - at)) ≡ end - at
-  long = part_length text at (end - at) (omega arith)
-
-  pub from-inside : at + a.from ≤ end
-  from-inside = omega (arith, long, q.fits.inside, q.order)
-
-  digits_are : digits ≡ drop a.from (part text at (end - at))
-  digits_are = line_rest text at end a.from (omega (arith, from-inside))
-
-  pub digits_hex : all_hex digits ≡ true
-  digits_hex = ap all_hex digits_are ∙ q.fits.hex
+  long = part_length text at (end - at) (omega (arith, q.order, q.last))
 
   digits_length : length digits ≡ end - (at + a.from)
-  digits_length = part_length text (at + a.from) (end - (at + a.from)) (omega (arith, from-inside))
+  digits_length = simp length-drop (omega (arith, long))
 
-  pub bytes-few : 2 * length (decoded digits) ≤ end - at
-  bytes-few = omega (arith, bytes-length digits, digits_length)
+  pub bytes_few : 2 * length (decoded digits) ≤ end - at
+  bytes_few = omega (arith, bytes_length digits, digits_length)
 
 module _ {text : List ℕ} {whole : Listed} {rows «data» : List ℕ} {at number size held : ℕ} (g : Going text whole rows «data» at number size held) where
-  pub ends : length text ≤ at → listed (take size rows) (take held «data») ≡ whole
+  pub ends : length text ≤ at → Ok (take size rows, take held «data») ≡ whole
   ends h = sym (list_ends _ text at number _ _ h) ∙ g.left.rest
 
-  pub fails : at < length text → {end : ℕ} → end ≡ value_end line_feed text at → line_of (part text at (end - at)) ≡ Bad → bad_line number ≡ whole
+  pub fails : at < length text → {end : ℕ} → end ≡ value_end line_feed text at → line_of (part text at (end - at)) ≡ None → Err number ≡ whole
   fails inside is e = sym (list-fails _ text at number _ _ inside (rw is at e)) ∙ g.left.rest
 
   module _ {end : ℕ} {a : Asking} (q : Asked text at end a) where
@@ -145,12 +135,8 @@ module _ {text : List ℕ} {whole : Listed} {rows «data» : List ℕ} {at numbe
     pub held_inside : held ≤ length «data»
     held_inside = omega (arith, g.byte, g.data_room, q.inside, q.short)
 
-    pub digits_fit : length (digits q) ≤ 2 * length (part «data» held (length «data» - held))
-    digits_fit =
-        omega (arith, digits_length q, part_length «data» held (length «data» - held) (omega (arith, held_inside)), g.byte, g.data_room, from-inside q, q.last, q.short)
-
     room : held + length (decoded (digits q)) ≤ length «data»
-    room = omega (arith, bytes-few q, g.byte, g.data_room, q.last, q.short, q.order)
+    room = omega (arith, bytes_few q, g.byte, g.data_room, q.last, q.short, q.order)
 
     -- its row and its bytes are put
     module _ {rows₁ ys : List ℕ} {k : ℕ} (row_put : rows₁ ≡ overwrite rows size (row_of a held))
@@ -174,7 +160,7 @@ module _ {text : List ℕ} {whole : Listed} {rows «data» : List ℕ} {at numbe
       data_are =
           (λ i. take (held + count i) (data_put i))
           ∙ take_through «data» held (decoded (digits q)) room
-          ∙ ap (λ (d : List ℕ). take held «data» ++ decoded d) (digits_are q ∙ ap (λ (e : ℕ). drop a.from (part text at (e - at))) q.is)
+          ∙ ap (λ (d : List ℕ). take held «data» ++ decoded d) (ap (λ (e : ℕ). drop a.from (part text at (e - at))) q.is)
 
       rest-left : Left text whole (end + 1) (number + 1) (take (size + row_size) rows₁) (take (held + k) data₁)
       rest-left =
@@ -187,7 +173,7 @@ module _ {text : List ℕ} {whole : Listed} {rows «data» : List ℕ} {at numbe
             left = rest-left;
             place = omega (arith, q.last);
             row = omega (arith, long q, q.fits.named, g.row);
-            byte = omega (arith, bytes-few q, count, g.byte, q.order);
+            byte = omega (arith, bytes_few q, count, g.byte, q.order);
             line = omega (arith, g.line, q.order);
             rows_room = ap length row_put ∙ write-length rows size (row_of a held) (omega (arith, row-length a held, row_fits)) ∙ g.rows_room;
             data_room = ap length data_put ∙ write-length «data» held (decoded (digits q)) room ∙ g.data_room;

@@ -1,12 +1,12 @@
 -- What `./rfm build` prints.
-use Rattle.std.specs.Prelude.{ℕ, ◌+◌, List, [], ◌++◌, length, take}
+use Rattle.std.specs.Prelude.{ℕ, ◌+◌, List, [], ◌++◌, length, take, Ok, Err}
 use Rattle.octets.specs.Bytes.{zeros}
 use Rattle.step.specs.Limits.{longest_script}
 use Rattle.operations.specs.Builds.{Building, build}
 use Rattle.lines.specs.Digits.{ascii, hex_of, decimal}
 use Rattle.lines.specs.Named.{line_feed, named}
 use Rattle.lines.specs.Values.{number_at, then}
-use Rattle.desk.specs.Lists.{Listed, listed, bad_line, list_from, limited_text}
+use Rattle.desk.specs.Lists.{Listed, list_from, limited_text}
 
 -- the number of a line that is not as asked, alone
 unfoldable pub bad_lines : ℕ → List ℕ
@@ -21,8 +21,8 @@ building_lines b =
 
 -- what is printed of a list
 unfoldable pub listed_lines : ℕ → Listed → List ℕ
-listed_lines format (listed rows «data») = building_lines (build format rows «data» (zeros longest_script))
-listed_lines format (bad_line n) = bad_lines n
+listed_lines format (Ok (rows, «data»)) = building_lines (build format rows «data» (zeros longest_script))
+listed_lines format (Err n) = bad_lines n
 
 -- the first line is `format=` and one digit; the operations come behind it
 unfoldable pub printed_for : List ℕ → List ℕ

@@ -1,27 +1,20 @@
 -- What promises speak of besides the rules: where the fields of a line lie, what a list is held in, and how much is printed at most.
-use Rattle.std.specs.Prelude.{ℕ, ◌+◌, ◌*◌, ◌≤◌, ◌<◌, ◌≡◌, true, List, length, take, drop}
+use Rattle.std.specs.Prelude.{ℕ, ◌+◌, ◌*◌, ◌≤◌, ◌<◌, ◌≡◌, true, List, length, take, drop, Option, IfSome, Result, Ok, Err, IfOk}
 use Rattle.step.specs.Limits.{longest_script}
 use Rattle.operations.specs.Rows.{row_size}
 use Rattle.lines.specs.Digits.{all_hex}
-use Rattle.desk.specs.declared.fields.Which.{Which}
-use Rattle.desk.specs.declared.fields.Which.TheVariants as which
+use Rattle.desk.specs.declared.fields.Fields.{Fields}
 use Rattle.desk.specs.declared.asking.Asking.{Asking}
-use Rattle.desk.specs.declared.asking.Line.{Line}
-use Rattle.desk.specs.declared.asking.Line.TheVariants as line
-use Rattle.desk.specs.declared.lists.Listing.{Listing}
-use Rattle.desk.specs.declared.lists.Listing.TheVariants as listing
-use Rattle.desk.specs.declared.reads.Shown.{Shown}
-use Rattle.desk.specs.Lists.{Listed, listed, bad_line}
+use Rattle.desk.specs.Lists.{Listed}
 
 -- fields that were read: the mode is a byte, and what follows begins at the place `first` or behind it, in the line or at its end
-pub record WhichAt (first size mode at : ℕ) : Type 0 where
-  pub byte : mode < 256
-  pub behind : first ≤ at
-  pub inside : at ≤ size
+pub record FieldsLie (first size : ℕ) (f : Fields) : Type 0 where
+  pub byte : f.mode < 256
+  pub behind : first ≤ f.at
+  pub inside : f.at ≤ size
 
-unfoldable pub WhichFits : ℕ → ℕ → Which → Type 0
-WhichFits first size (which.At mode n at) = WhichAt first size mode at
-WhichFits first size which.Bad = Unit
+abbrev pub FieldsFit : ℕ → ℕ → Option Fields → Type 0
+FieldsFit first size fields = IfSome fields (FieldsLie first size)
 
 -- an operation that a line asks for: what stands behind its fields are the digits of its bytes, and none for a read
 pub record AskingFits (line : List ℕ) (a : Asking) : Type 0 where
@@ -32,14 +25,13 @@ pub record AskingFits (line : List ℕ) (a : Asking) : Type 0 where
   -- the shortest are `select=` and `read=0,0`
   pub named : row_size ≤ length line + 1
 
-unfoldable pub LineFits : List ℕ → Line → Type 0
-LineFits l (line.Asks a) = AskingFits l a
-LineFits l line.Bad = Unit
+abbrev pub LineFits : List ℕ → Option Asking → Type 0
+LineFits line asking = IfSome asking (AskingFits line)
 
 -- the list that two memories hold at their starts, or the number of a line
-unfoldable pub held_in : List ℕ → List ℕ → Listing → Listed
-held_in rows «data» (listing.Listed n k) = listed (take n rows) (take k «data»)
-held_in rows «data» (listing.Bad number) = bad_line number
+abbrev pub held_in : List ℕ → List ℕ → Result (ℕ × ℕ) ℕ → Listed
+held_in rows «data» (Ok (n, k)) = Ok (take n rows, take k «data»)
+held_in rows «data» (Err number) = Err number
 
 -- room for all operations of a text, each of which takes 8 signs, and for their bytes, each of which takes two
 abbrev pub room_for_rows : ℕ
@@ -49,9 +41,8 @@ abbrev pub room_for_data : ℕ
 room_for_data = 32776
 
 -- a list and its data find that room
-unfoldable pub ListingFits : Listing → Type 0
-ListingFits (listing.Listed n k) = (n ≤ room_for_rows) × (k ≤ room_for_data)
-ListingFits (listing.Bad number) = Unit
+abbrev pub ListingFits : Result (ℕ × ℕ) ℕ → Type 0
+ListingFits listing = IfOk listing (λ (n, k). (n ≤ room_for_rows) × (k ≤ room_for_data))
 
 -- the most that is printed of a build: three names, two numbers, three line feeds, and two digits for each byte of a script
 abbrev pub most_built : ℕ
@@ -70,10 +61,10 @@ pub record ShowAsks (answer : List ℕ) (word from count : ℕ) (out : List ℕ)
   pub inside : from + count ≤ length answer
   pub room : to + 2 * count + 18 ≤ length out
 
--- a printing of results on its way: its place is at most two bytes behind the answer, and no more is printed than five signs for each byte
--- before it
-pub record ShownFits (answer out : List ℕ) (s : Shown) : Type 0 where
+-- a printing of results at a place of an answer: its place is at most two bytes behind the answer, and no more is printed than five signs
+-- for each byte before it
+pub record ShownFits (answer out : List ℕ) (place to : ℕ) : Type 0 where
   pub short : length answer ≤ longest_answer
-  pub placed : s.place ≤ length answer + 2
-  pub printed : s.to ≤ 27 + 5 * s.place
+  pub placed : place ≤ length answer + 2
+  pub printed : to ≤ 27 + 5 * place
   pub room : most_told ≤ length out

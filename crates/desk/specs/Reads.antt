@@ -1,5 +1,5 @@
 -- What `./rfm read` prints.
-use Rattle.std.specs.Prelude.{ℕ, ◌+◌, ◌*◌, ◌-◌, ◌≤◌, ◌≡◌, true, false, List, [], ◌∷◌, ◌++◌, length, ltb, Option, Some, None, Result, Ok, Err}
+use Rattle.std.specs.Prelude.{ℕ, ◌+◌, ◌*◌, ◌-◌, List, [], ◌∷◌, ◌++◌, length, ltb, Option, Some, None, Result, Ok, Err}
 use Rattle.octets.specs.Choice.{pick}
 use Rattle.octets.specs.Bytes.{bytes2, part}
 use Rattle.answers.specs.declared.Summary.{Summary}
@@ -7,11 +7,9 @@ use Rattle.answers.specs.declared.results.Told.{Told}
 use Rattle.answers.specs.declared.results.Told.TheVariants as results
 use Rattle.answers.specs.Told.{Reply, replied, bad_format, told_from}
 use Rattle.answers.specs.Answers.{read_answer}
-use Rattle.lines.specs.declared.values.Value.{Value}
-use Rattle.lines.specs.declared.values.Value.TheVariants as value
-use Rattle.lines.specs.Digits.{ascii, is_hex, decoded, hex_of, decimal}
+use Rattle.lines.specs.Digits.{ascii, decoded, hex_of, decimal}
 use Rattle.lines.specs.Named.{line_feed, named}
-use Rattle.lines.specs.Values.{value_at, number_at, then}
+use Rattle.lines.specs.Values.{number_at, hex_at, then}
 use Rattle.desk.specs.declared.reads.Shown.{Shown}
 use Rattle.desk.specs.Builds.{bad_lines}
 
@@ -35,10 +33,13 @@ shown_lines (Some (results.Result word from count)) answer = reply_lines (replie
 shown_lines (Some (results.BadFormat code)) answer = reply_lines (bad_format code)
 shown_lines None answer = []
 
-unfoldable pub shown_next : Option Told → Shown → Shown
-shown_next (Some (results.Result word from count)) s = record { place = from + count + 2; to = s.to + 2 * count + 18; going = true }
-shown_next (Some (results.BadFormat code)) s = record { place = s.place; to = s.to + 8; going = false }
-shown_next None s = record { place = s.place; to = s.to; going = false }
+abbrev pub shown : Option ℕ → ℕ → Shown
+shown next to = record { next = next; to = to }
+
+unfoldable pub shown_next : Option Told → ℕ → Shown
+shown_next (Some (results.Result word from count)) to = shown (Some (from + count + 2)) (to + 2 * count + 18)
+shown_next (Some (results.BadFormat code)) to = shown None (to + 8)
+shown_next None to = shown None to
 
 -- what is printed of a good answer
 unfoldable pub read_lines : ℕ → List ℕ → ℕ → ℕ → ℕ → List ℕ
@@ -50,36 +51,15 @@ unfoldable pub answered_lines : ℕ → List ℕ → Result Summary ℕ → List
 answered_lines format answer (Ok s) = read_lines format answer s.count s.first s.end
 answered_lines format answer (Err place) = named (ascii "place=") (decimal place) line_feed
 
--- the digits of the answer in the second line's value
-unfoldable pub digits_in : List ℕ → Value → Value
-digits_in text (value.At from to) =
-    pick (ltb most_answer_digits (to - from)) value.Bad
-    (pick (is_hex (part text from (to - from))) (value.At from to) value.Bad)
-digits_in text value.Bad = value.Bad
-
-unfoldable pub digits_at : List ℕ → ℕ → Value
-digits_at text at = digits_in text (value_at text at (ascii "answer=") line_feed)
-
--- what the digits promise: they lie in the text, are no more than an answer may have, and are hex digits in pairs
-pub record DigitsLie (text : List ℕ) (from to : ℕ) : Type 0 where
-  pub ordered : from ≤ to
-  pub inside : to ≤ length text
-  pub few : to - from ≤ most_answer_digits
-  pub hex : is_hex (part text from (to - from)) ≡ true
-
-unfoldable pub DigitsFit : List ℕ → Value → Type 0
-DigitsFit text (value.At from to) = DigitsLie text from to
-DigitsFit text value.Bad = Unit
-
 -- the second line is missing or not as asked, or there is a third
-unfoldable pub answer_in : ℕ → List ℕ → Value → List ℕ
-answer_in format text (value.At from to) =
+unfoldable pub answer_in : ℕ → List ℕ → ℕ → ℕ → List ℕ
+answer_in format text from to =
     pick (ltb (to + 1) (length text))
     (bad_lines 3)
     (answered_lines format (decoded (part text from (to - from))) (read_answer format (decoded (part text from (to - from)))))
-answer_in format text value.Bad = bad_lines 2
 
 unfoldable pub told : List ℕ → List ℕ
 told text =
     then (bad_lines 1) (number_at text 0 (ascii "format=") line_feed 10 1 1) λ format second.
-    answer_in format text (digits_at text second)
+    then (bad_lines 2) (hex_at text second (ascii "answer=") line_feed most_answer_digits) λ from to.
+    answer_in format text from to

@@ -1,11 +1,10 @@
 // One operation as a line of text.
 ghost use Rattle.std.specs.Prelude.{◌≡◌, ◌≤◌, length};
-ghost use Rattle.desk.specs.declared.fields.Which.TheVariants as which;
 ghost use Rattle.desk.specs.Asking as spec;
-ghost use Rattle.desk.specs.Promised.{WhichFits, LineFits};
+ghost use Rattle.desk.specs.Promised.{FieldsFit, LineFits};
 
-use crate::fields::{Which, offset_at, stands, way_at, which_at};
-use lines::digits::{Number, is_hex, plain_number};
+use crate::fields::{Fields, offset_at, stands, way_at, which_at};
+use lines::digits::{is_hex, plain_number};
 use operations::rows::{
     INCREASE, READ, READ_RECORD, SEARCH, SELECT, UPDATE, UPDATE_RECORD, is_read,
 };
@@ -20,102 +19,104 @@ pub struct Asking {
     pub from: usize,
 }
 
-// What a line asks for; bad where it has another shape.
-#[derive(Clone, Copy)]
-pub enum Line {
-    Asks(Asking),
-    Bad,
-}
-
-// Returns the kind of operation that a line names, and 0 for none.
-fn kind_of(line: &[u8]) -> usize
+// Returns the kind of operation that a line names; none where it names none.
+#[tactic(auto, unfolding(crate::specs::Asking::kind_of, lines::specs::Digits::ascii, octets::specs::Choice::pick))]
+fn kind_of(line: &[u8]) -> Option<usize>
     ensures { result ≡ spec.kind_of line.now }
 {
     if stands(line, 0, b"select=") {
-        return SELECT;
+        return Some(SELECT);
     }
     if stands(line, 0, b"update=") {
-        return UPDATE;
+        return Some(UPDATE);
     }
     if stands(line, 0, b"read=") {
-        return READ;
+        return Some(READ);
     }
     if stands(line, 0, b"update-record=") {
-        return UPDATE_RECORD;
+        return Some(UPDATE_RECORD);
     }
     if stands(line, 0, b"read-record=") {
-        return READ_RECORD;
+        return Some(READ_RECORD);
     }
     if stands(line, 0, b"increase=") {
-        return INCREASE;
+        return Some(INCREASE);
     }
     if stands(line, 0, b"search=") {
-        return SEARCH;
+        return Some(SEARCH);
     }
-    0
+    None
 }
 
 // Returns the fields of a line behind the name of its kind, but for the last.
-fn which_of(kind: usize, line: &[u8]) -> Which
-    requires { kind ≡ spec.kind_of line.now }
-    ensures { (result ≡ spec.which_of kind line.now) × WhichFits 7 (length line.now) result }
+fn which_of(kind: usize, line: &[u8]) -> Option<Fields>
+    requires { Some kind ≡ spec.kind_of line.now }
+    ensures { (result ≡ spec.which_of kind line.now) × FieldsFit 7 (length line.now) result }
 {
     match kind {
-        SELECT => Which::At(0, 0, 7),
+        SELECT => Some(Fields {
+            mode: 0,
+            number: 0,
+            at: 7,
+        }),
         UPDATE => offset_at(line, 7),
         READ => offset_at(line, 5),
         UPDATE_RECORD => which_at(line, 14),
         READ_RECORD => which_at(line, 12),
-        INCREASE => Which::At(0, 0, 9),
+        INCREASE => Some(Fields {
+            mode: 0,
+            number: 0,
+            at: 9,
+        }),
         SEARCH => way_at(line, 7),
-        _ => Which::Bad,
+        _ => None,
     }
 }
 
-// Returns an operation whose bytes are the digits from the place `at` to the line's end.
-fn with_bytes(kind: usize, line: &[u8], mode: usize, number: usize, at: usize) -> Line
-    requires { at ≤ length line.now }
-    ensures { result ≡ spec.with_bytes kind line.now (which.At mode number at) }
+// Returns an operation whose bytes are the digits from the place behind the fields to the line's end.
+#[tactic(auto, using(lines::proofs::Reading::lent_rest), unfolding(crate::specs::Asking::with_bytes, octets::specs::Choice::pick))]
+fn with_bytes(kind: usize, line: &[u8], fields: Fields) -> Option<Asking>
+    requires { fields.at ≤ length line.now }
+    ensures { result ≡ spec.with_bytes kind line.now fields }
 {
+    let at = fields.at;
     if !is_hex(&line[at..]) {
-        return Line::Bad;
+        return None;
     }
-    Line::Asks(Asking {
+    Some(Asking {
         kind,
-        mode,
-        number,
+        mode: fields.mode,
+        number: fields.number,
         count: (line.len() - at) / 2,
         from: at,
     })
 }
 
 // Returns a read of as many bytes as the last field says.
-fn with_count(kind: usize, line: &[u8], mode: usize, number: usize, at: usize) -> Line
-    requires { at ≤ length line.now }
-    ensures { result ≡ spec.with_count kind line.now (which.At mode number at) }
+#[tactic(auto, using(lines::proofs::Reading::lent_rest), unfolding(crate::specs::Asking::with_count))]
+fn with_count(kind: usize, line: &[u8], fields: Fields) -> Option<Asking>
+    requires { fields.at ≤ length line.now }
+    ensures { result ≡ spec.with_count kind line.now fields }
 {
-    let Number::Value(count) = plain_number(&line[at..]) else {
-        return Line::Bad;
-    };
-    Line::Asks(Asking {
+    let count = plain_number(&line[fields.at..])?;
+    Some(Asking {
         kind,
-        mode,
-        number,
+        mode: fields.mode,
+        number: fields.number,
         count,
         from: line.len(),
     })
 }
 
-// Returns the operation that a line asks for.
-pub fn line_of(line: &[u8]) -> Line
+// Returns the operation that a line asks for; none where it has another shape.
+#[tactic(auto, using(crate::proofs::Naming::bytes_fit, crate::proofs::Naming::count_fits, crate::proofs::Naming::named), unfolding(crate::specs::Asking::line_of, octets::specs::Choice::pick))]
+pub fn line_of(line: &[u8]) -> Option<Asking>
     ensures { (result ≡ spec.line_of line.now) × LineFits line.now result }
 {
-    let kind = kind_of(line);
-    let Which::At(mode, number, at) = which_of(kind, line) else {
-        return Line::Bad;
-    };
+    let kind = kind_of(line)?;
+    let fields = which_of(kind, line)?;
     if is_read(kind) {
-        return with_count(kind, line, mode, number, at);
+        return with_count(kind, line, fields);
     }
-    with_bytes(kind, line, mode, number, at)
+    with_bytes(kind, line, fields)
 }

@@ -7,10 +7,10 @@ ghost use Rattle.desk.specs.Lists.{most_text, limited_text};
 ghost use Rattle.desk.specs.Builds as spec;
 ghost use Rattle.desk.specs.Promised.{most_built};
 
-use crate::lists::{Listing, limit, list_from};
+use crate::lists::{limit, list_from};
 use engine::LONGEST_SCRIPT;
 use lines::put::{put_bytes, put_number};
-use lines::values::{Field, number_at};
+use lines::values::number_at;
 
 // The signs that are read at most: one more than a text may have.
 pub const MOST_READ: usize = 65537;
@@ -19,6 +19,7 @@ pub const MOST_READ: usize = 65537;
 pub const MOST_PRINTED: usize = 76 + 2 * LONGEST_SCRIPT;
 
 // Puts the number of a line that is not as asked at the start of `out`. Returns the place behind it.
+#[tactic(auto, unfolding(crate::specs::Builds::bad_lines, lines::specs::Digits::ascii))]
 pub(crate) fn put_bad_line(out: &mut [u8], number: usize) -> usize
     requires { 26 ≤ length out.old }
     ensures { (out.new ≡ overwrite out.old 0 (spec.bad_lines number)) × (result ≡ length (spec.bad_lines number)) × (result ≤ 26) }
@@ -44,21 +45,19 @@ fn put_text(text: &[u8], out: &mut [u8]) -> usize
     requires { (length text.now ≤ most_text + 1) × (most_built ≤ length out.old) }
     ensures { (out.new ≡ overwrite out.old 0 (spec.printed_for text.now)) × (result ≡ length (spec.printed_for text.now)) × (result ≤ most_built) }
 {
-    let Field::Value(format, second) = number_at(text, 0, b"format=", b'\n', 10, 1, 1) else {
+    let Some((format, second)) = number_at(text, 0, b"format=", b'\n', 10, 1, 1) else {
         return put_bad_line(out, 1);
     };
     let mut rows = [0u8; 65544];
     let mut data = [0u8; 32776];
-    let listing = list_from(text, second, &mut rows, &mut data);
-    match listing {
-        Listing::Listed(size, held) => {
-            put_built(format as u8, &rows[..size], &data[..held], out)
-        }
-        Listing::Bad(number) => put_bad_line(out, number),
+    match list_from(text, second, &mut rows, &mut data) {
+        Ok((size, held)) => put_built(format as u8, &rows[..size], &data[..held], out),
+        Err(number) => put_bad_line(out, number),
     }
 }
 
 // Puts what is printed for a text at the start of `out`, and ends the text where it is too long. Returns how many signs are printed.
+#[tactic(auto, unfolding(crate::specs::Builds::built))]
 pub fn print(text: &mut [u8], out: &mut [u8]) -> usize
     requires { (length text.old ≤ most_text + 1) × (most_built ≤ length out.old) }
     ensures { (text.new ≡ limited_text text.old) × (out.new ≡ overwrite out.old 0 (spec.built text.old)) × (result ≡ length (spec.built text.old)) × (result ≤ most_built) }

@@ -2,64 +2,75 @@
 ghost use Rattle.std.specs.Prelude.{◌≡◌, ◌+◌, ◌≤◌, ◌<◌, length, drop};
 ghost use Rattle.octets.specs.Bytes.{starts_with};
 ghost use Rattle.desk.specs.Fields as spec;
-ghost use Rattle.desk.specs.Promised.{WhichFits};
+ghost use Rattle.desk.specs.Promised.{FieldsFit};
 
-use lines::digits::{Number, plain_number};
-use lines::values::{Value, value_at, value_end};
+use lines::digits::plain_number;
+use lines::values::{value_at, value_end};
 use operations::rows::{ABSOLUTE, BACKWARD, FORWARD, NEXT, PREVIOUS};
 
-// A mode, a number, and the place of what follows; bad where another stands there.
+// The fields of a line but for the last: a mode, a number, and the place of what follows.
 #[derive(Clone, Copy)]
-pub enum Which {
-    At(usize, usize, usize),
-    Bad,
+pub struct Fields {
+    pub mode: usize,
+    pub number: usize,
+    pub at: usize,
 }
 
 // Returns whether a name stands at the place `at` of a line.
+#[tactic(auto, unfolding(lines::specs::Values::value_at, octets::specs::Choice::pick))]
 pub fn stands(line: &[u8], at: usize, name: &[u8]) -> bool
     requires { 1 ≤ length name.now }
     ensures { result ≡ starts_with (drop at line.now) name.now }
 {
-    let value = value_at(line, at, name, b'\n');
-    match value {
-        Value::At(_, _) => true,
-        Value::Bad => false,
-    }
+    value_at(line, at, name, b'\n').is_some()
 }
 
-// Returns a mode with the number between the place `at` and the next comma, and the place behind that; bad where another stands there.
-fn numbered(mode: usize, line: &[u8], at: usize) -> Which
+// Returns a mode with the number between the place `at` and the next comma, and the place behind that; none where another stands there.
+#[tactic(auto, using(crate::proofs::Standing::number_some), unfolding(crate::specs::Fields::numbered, crate::specs::Fields::number_field, lines::specs::Values::before, octets::specs::Choice::pick))]
+fn numbered(mode: usize, line: &[u8], at: usize) -> Option<Fields>
     requires { (mode < 256) × (at ≤ length line.now) }
-    ensures { (result ≡ spec.numbered mode (spec.number_field line.now at)) × WhichFits (at + 2) (length line.now) result }
+    ensures { (result ≡ spec.numbered mode (spec.number_field line.now at)) × FieldsFit (at + 2) (length line.now) result }
 {
     let end = value_end(line, at, b',');
     if line.len() <= end {
-        return Which::Bad;
+        return None;
     }
-    let Number::Value(n) = plain_number(&line[at..end]) else {
-        return Which::Bad;
-    };
-    Which::At(mode, n, end + 1)
+    let number = plain_number(&line[at..end])?;
+    Some(Fields {
+        mode,
+        number,
+        at: end + 1,
+    })
 }
 
 // Returns the record that the field at the place `at` names: next, previous, or a number.
-pub fn which_at(line: &[u8], at: usize) -> Which
+#[tactic(auto, using(crate::proofs::Standing::name_inside), unfolding(crate::specs::Fields::which_at, lines::specs::Digits::ascii, octets::specs::Choice::pick))]
+pub fn which_at(line: &[u8], at: usize) -> Option<Fields>
     requires { at ≤ length line.now }
-    ensures { (result ≡ spec.which_at line.now at) × WhichFits (at + 2) (length line.now) result }
+    ensures { (result ≡ spec.which_at line.now at) × FieldsFit (at + 2) (length line.now) result }
 {
     if stands(line, at, b"next,") {
-        return Which::At(NEXT, 0, at + 5);
+        return Some(Fields {
+            mode: NEXT,
+            number: 0,
+            at: at + 5,
+        });
     }
     if stands(line, at, b"previous,") {
-        return Which::At(PREVIOUS, 0, at + 9);
+        return Some(Fields {
+            mode: PREVIOUS,
+            number: 0,
+            at: at + 9,
+        });
     }
     numbered(ABSOLUTE, line, at)
 }
 
 // Returns the way of a search and its first record, from the two fields at the place `at`.
-pub fn way_at(line: &[u8], at: usize) -> Which
+#[tactic(auto, using(crate::proofs::Standing::name_inside, crate::proofs::Standing::fields_behind), unfolding(crate::specs::Fields::way_at, lines::specs::Digits::ascii, octets::specs::Choice::pick))]
+pub fn way_at(line: &[u8], at: usize) -> Option<Fields>
     requires { at ≤ length line.now }
-    ensures { (result ≡ spec.way_at line.now at) × WhichFits (at + 2) (length line.now) result }
+    ensures { (result ≡ spec.way_at line.now at) × FieldsFit (at + 2) (length line.now) result }
 {
     if stands(line, at, b"forward,") {
         return numbered(FORWARD, line, at + 8);
@@ -67,13 +78,14 @@ pub fn way_at(line: &[u8], at: usize) -> Which
     if stands(line, at, b"backward,") {
         return numbered(BACKWARD, line, at + 9);
     }
-    Which::Bad
+    None
 }
 
 // Returns the offset that the field at the place `at` names.
-pub fn offset_at(line: &[u8], at: usize) -> Which
+#[tactic(auto, unfolding(crate::specs::Fields::offset_at))]
+pub fn offset_at(line: &[u8], at: usize) -> Option<Fields>
     requires { at ≤ length line.now }
-    ensures { (result ≡ spec.offset_at line.now at) × WhichFits (at + 2) (length line.now) result }
+    ensures { (result ≡ spec.offset_at line.now at) × FieldsFit (at + 2) (length line.now) result }
 {
     numbered(0, line, at)
 }

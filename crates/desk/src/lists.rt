@@ -6,7 +6,7 @@ ghost use Rattle.operations.specs.Rows.{row_size, is_read};
 ghost use Rattle.desk.specs.Lists as spec;
 ghost use Rattle.desk.specs.Promised.{held_in, ListingFits, room_for_rows, room_for_data};
 
-use crate::asking::{Asking, Line, line_of};
+use crate::asking::{Asking, line_of};
 use lines::digits::decode;
 use lines::values::value_end;
 use operations::rows::{ROW_SIZE, is_read};
@@ -14,14 +14,8 @@ use operations::rows::{ROW_SIZE, is_read};
 // The signs that a text has at most.
 pub const MOST_TEXT: usize = 65536;
 
-// How many bytes a list and its data have, at the starts of two memories; or the number of the first line that is not as asked.
-#[derive(Clone, Copy)]
-pub enum Listing {
-    Listed(usize, usize),
-    Bad(usize),
-}
-
 // Returns where the bytes of a kind of operation begin: a read has none.
+#[tactic(auto, unfolding(octets::specs::Choice::pick))]
 fn place_of(kind: usize, from: usize) -> usize
     ensures { result ≡ pick (is_read kind) 0 from }
 {
@@ -37,25 +31,21 @@ fn put_row(rows: &mut [u8], at: usize, a: Asking, from: usize)
     ensures { rows.new ≡ overwrite rows.old at (spec.row_of a from) }
 {
     let place = place_of(a.kind, from);
-    octets::copy(
-        rows,
-        at,
-        &[
-            a.kind as u8,
-            a.mode as u8,
-            (a.number / 256 % 256) as u8,
-            (a.number % 256) as u8,
-            (place / 256 % 256) as u8,
-            (place % 256) as u8,
-            (a.count / 256 % 256) as u8,
-            (a.count % 256) as u8,
-        ],
-    );
+    rows[at] = a.kind as u8;
+    rows[at + 1] = a.mode as u8;
+    octets::put_num(rows, at + 2, a.number);
+    octets::put_num(rows, at + 4, place);
+    octets::put_num(rows, at + 6, a.count);
 }
 
 // Puts the operations of a text from the place `first` on, whose line is the second, at the start of `rows`, and their bytes at the start of
-// `data`. Returns how many bytes both have, or the number of the first line that is not as asked.
-pub fn list_from(text: &[u8], first: usize, rows: &mut [u8], data: &mut [u8]) -> Listing
+// `data`. Returns how many bytes both have; on an error it is the number of the first line that is not as asked.
+pub fn list_from(
+    text: &[u8],
+    first: usize,
+    rows: &mut [u8],
+    data: &mut [u8],
+) -> Result<(usize, usize), usize>
     requires { (first ≤ length text.now + 1) × (length text.now ≤ spec.most_text + 1) × (length rows.old ≡ room_for_rows) × (length «data».old ≡ room_for_data) }
     ensures { (held_in rows.new «data».new result ≡ spec.list_from (length text.now + 1) text.now first 2 [] []) × ListingFits result }
 {
@@ -65,17 +55,17 @@ pub fn list_from(text: &[u8], first: usize, rows: &mut [u8], data: &mut [u8]) ->
     let mut held: usize = 0;
     while at < text.len() {
         let end = value_end(text, at, b'\n');
-        let Line::Asks(a) = line_of(&text[at..end]) else {
-            return Listing::Bad(number);
+        let line = &text[at..end];
+        let Some(a) = line_of(line) else {
+            return Err(number);
         };
         put_row(rows, size, a, held);
-        let from = at + a.from;
-        held += decode(&text[from..end], &mut data[held..]);
+        held += decode(&line[a.from..], &mut data[held..]);
         size += ROW_SIZE;
         number += 1;
         at = end + 1;
     }
-    Listing::Listed(size, held)
+    Ok((size, held))
 }
 
 // Puts a sign that no line has in the place of the first that is too much.
@@ -84,6 +74,6 @@ pub fn limit(text: &mut [u8])
     ensures { text.new ≡ spec.limited_text text.old }
 {
     if MOST_TEXT < text.len() {
-        octets::fill(text, MOST_TEXT, 1, 0);
+        text[MOST_TEXT] = 0;
     }
 }

@@ -1,5 +1,5 @@
 // What the program `read` prints.
-ghost use Rattle.std.specs.Prelude.{◌≡◌, ◌+◌, ◌*◌, ◌≤◌, ◌<◌, length, true};
+ghost use Rattle.std.specs.Prelude.{◌≡◌, ◌+◌, ◌*◌, ◌≤◌, ◌<◌, length};
 ghost use Rattle.octets.specs.Bytes.{overwrite, part};
 ghost use Rattle.answers.specs.Told.{replied, bad_format, told_from};
 ghost use Rattle.answers.specs.Results.{result_at};
@@ -10,9 +10,9 @@ ghost use Rattle.desk.specs.Promised.{longest_answer, most_told, ShowAsks, Shown
 use crate::builds::put_bad_line;
 use answers::read_answer;
 use answers::results::{Told, result_at};
-use lines::digits::{decode, is_hex};
+use lines::digits::decode;
 use lines::put::{put_bytes, put_number};
-use lines::values::{Field, Value, number_at, value_at};
+use lines::values::{hex_at, number_at};
 
 // The digits that an answer has at most.
 const MOST_DIGITS: usize = 131072;
@@ -23,12 +23,11 @@ pub const MOST_READ: usize = 131090;
 // The signs that are printed at most.
 pub const MOST_PRINTED: usize = 64 + 5 * 65536;
 
-// A printing of results on its way: the place in the answer, the place behind what is printed, and whether it goes on.
+// How a printing of results goes on: the place of the next one in the answer, none at the end, and the place behind what is printed.
 #[derive(Clone, Copy)]
 pub struct Shown {
-    pub place: usize,
+    pub next: Option<usize>,
     pub to: usize,
-    pub going: bool,
 }
 
 // Puts the two lines of an R-APDU at the place `to`. Returns the place behind them.
@@ -36,17 +35,13 @@ fn put_result(word: usize, data: &[u8], out: &mut [u8], to: usize) -> usize
     requires { (word < 65536) × (to + 2 * length «data».now + 18 ≤ length out.old) }
     ensures { (out.new ≡ overwrite out.old to (spec.reply_lines (replied word «data».now))) × (result ≡ to + 2 * length «data».now + 18) }
 {
-    let second = put_bytes(
-        out,
-        to,
-        b"status=",
-        &[(word / 256 % 256) as u8, (word % 256) as u8],
-        b'\n',
-    );
+    let status = (word as u16).to_be_bytes();
+    let second = put_bytes(out, to, b"status=", &status, b'\n');
     put_bytes(out, second, b"data=", data, b'\n')
 }
 
 // Puts the line of a Bad format TLV at the place `to`. Returns the place behind it.
+#[tactic(auto, unfolding(crate::specs::Reads::reply_lines, lines::specs::Digits::ascii))]
 fn put_code(code: usize, out: &mut [u8], to: usize) -> usize
     requires { (code < 256) × (to + 8 ≤ length out.old) }
     ensures { (out.new ≡ overwrite out.old to (spec.reply_lines (bad_format code))) × (result ≡ to + 8) }
@@ -65,39 +60,39 @@ fn show_result(
     to: usize,
 ) -> Shown
     requires { ShowAsks answer.now word from count out.old to }
-    ensures { (out.new ≡ overwrite out.old to (spec.reply_lines (replied word (part answer.now from count)))) × (result ≡ record { place = from + count + 2; to = to + 2 * count + 18; going = true }) }
+    ensures { (out.new ≡ overwrite out.old to (spec.reply_lines (replied word (part answer.now from count)))) × (result ≡ spec.shown (Some (from + count + 2)) (to + 2 * count + 18)) }
 {
     let behind = from + count;
     let next = put_result(word, &answer[from..behind], out, to);
     Shown {
-        place: behind + 2,
+        next: Some(behind + 2),
         to: next,
-        going: true,
     }
 }
 
-// Puts the lines of the result that stands where the printing is. Returns how the printing goes on behind it.
-fn show_next(format: u8, answer: &[u8], end: usize, out: &mut [u8], s: Shown) -> Shown
-    requires { ShownFits answer.now out.old s }
-    ensures { (out.new ≡ overwrite out.old s.to (spec.shown_lines (result_at format answer.now s.place end) answer.now)) × (result ≡ spec.shown_next (result_at format answer.now s.place end) s) }
+// Puts the lines of the result at the place `place` of an answer, which ends at `end`, at the place `to`. Returns how the printing goes on
+// behind it.
+#[tactic(auto, unfolding(crate::specs::Reads::shown_lines, crate::specs::Reads::shown_next))]
+fn show_next(
+    format: u8,
+    answer: &[u8],
+    place: usize,
+    end: usize,
+    out: &mut [u8],
+    to: usize,
+) -> Shown
+    requires { ShownFits answer.now out.old place to }
+    ensures { (out.new ≡ overwrite out.old to (spec.shown_lines (result_at format answer.now place end) answer.now)) × (result ≡ spec.shown_next (result_at format answer.now place end) to) }
 {
-    let place = s.place;
-    let to = s.to;
     match result_at(format, answer, place, end) {
         Some(Told::Result(word, from, count)) => show_result(answer, word, from, count, out, to),
         Some(Told::BadFormat(code)) => {
-            let next = put_code(code, out, to);
             Shown {
-                place,
-                to: next,
-                going: false,
+                next: None,
+                to: put_code(code, out, to),
             }
         }
-        None => Shown {
-            place,
-            to,
-            going: false,
-        },
+        None => Shown { next: None, to },
     }
 }
 
@@ -110,16 +105,15 @@ fn put_results(
     out: &mut [u8],
     to: usize,
 ) -> usize
-    requires { ShownFits answer.now out.old (record { place = first; to = to; going = true }) }
+    requires { ShownFits answer.now out.old first to }
     ensures { (out.new ≡ overwrite out.old to (spec.all_lines (told_from (length answer.now) format answer.now first end))) × (result ≡ to + length (spec.all_lines (told_from (length answer.now) format answer.now first end))) × (result ≤ most_told) }
 {
     let mut s = Shown {
-        place: first,
+        next: Some(first),
         to,
-        going: true,
     };
-    while s.going {
-        s = show_next(format, answer, end, out, s);
+    while let Some(place) = s.next {
+        s = show_next(format, answer, place, end, out, s.to);
     }
     s.to
 }
@@ -152,32 +146,15 @@ fn put_answered(format: u8, answer: &[u8], out: &mut [u8]) -> usize
     }
 }
 
-// Returns where the digits of the answer lie in the line at the place `at`; bad where another line stands there, or not as many hex digits in
-// pairs as may be.
-fn digits_at(text: &[u8], at: usize) -> Value
-    ensures { (result ≡ spec.digits_at text.now at) × spec.DigitsFit text.now result }
-{
-    let Value::At(from, to) = value_at(text, at, b"answer=", b'\n') else {
-        return Value::Bad;
-    };
-    if MOST_DIGITS < to - from {
-        return Value::Bad;
-    }
-    if !is_hex(&text[from..to]) {
-        return Value::Bad;
-    }
-    Value::At(from, to)
-}
-
 // Puts what is printed for a text at the start of `out`. Returns how many signs it has.
 pub fn print(text: &[u8], out: &mut [u8]) -> usize
     requires { most_told ≤ length out.old }
     ensures { (out.new ≡ overwrite out.old 0 (spec.told text.now)) × (result ≡ length (spec.told text.now)) × (result ≤ most_told) }
 {
-    let Field::Value(format, second) = number_at(text, 0, b"format=", b'\n', 10, 1, 1) else {
+    let Some((format, second)) = number_at(text, 0, b"format=", b'\n', 10, 1, 1) else {
         return put_bad_line(out, 1);
     };
-    let Value::At(from, to) = digits_at(text, second) else {
+    let Some((from, to)) = hex_at(text, second, b"answer=", b'\n', MOST_DIGITS) else {
         return put_bad_line(out, 2);
     };
     if to + 1 < text.len() {

@@ -9,4 +9,4 @@ invariant-loop-s l =
     Showing l.format l.answer l.end (all_lines (told_from (length l.answer) l.format l.answer l.first l.end)) l.initial.out l.to l.out l.s
 
 abbrev pub decreases-loop-s : goal.decreases-loop-s
-decreases-loop-s l = left (length l.answer) l.s
+decreases-loop-s l = left (length l.answer) l.s.next

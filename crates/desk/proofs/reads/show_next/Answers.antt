@@ -1,7 +1,6 @@
 -- `desk::reads::show_next` meets its contract: each way out is what the result that stands there comes to (`shown_lines`, `shown_next`).
 -- Assumes nothing.
 use mathlib.Core.Path.{refl, sym, ap, ◌∙◌}
-use mathlib.Core.Bool.{false}
 use native.Mathlib.Omega.{arith}
 use Rattle.std.specs.Prelude.{Some}
 use Rattle.octets.proofs.Writes.{write-none}
@@ -16,25 +15,12 @@ show_result-requires c =
     let asks = c.requires in
     record { small = fits.small; inside = fits.inside; room = omega (arith, fits.further, fits.inside, asks.short, asks.printed, asks.room) }
 
-pub put_code-next-requires : goal.put_code-next-requires
+pub put_code-requires : goal.put_code-requires
 unfolding ToldFits
-put_code-next-requires c =
+put_code-requires c =
     let few = rw (c.in-Some-BadFormat.is ∙ ap Some c.in-Some-BadFormat.field-0-is) at c.result_at.ensures.1 in
     let asks = c.requires in
     (omega arith, omega (arith, asks.short, asks.placed, asks.printed, asks.room))
-
-pub returns-in-Some-Result : goal.returns-in-Some-Result
-unfolding shown_lines shown_next
-returns-in-Some-Result c =
-    rw (sym c.result_at.ensures.0 ∙ (c.in-Some-Result.is ∙ ap Some c.in-Some-Result.field-0-is)) c.show_result.ensures
-
-pub returns-in-Some-BadFormat : goal.returns-in-Some-BadFormat
-unfolding shown_lines shown_next
-returns-in-Some-BadFormat c =
-    let place = c.args.s.place in
-    let p = c.put_code-next.ensures in
-    rw (sym c.result_at.ensures.0 ∙ (c.in-Some-BadFormat.is ∙ ap Some c.in-Some-BadFormat.field-0-is))
-    (p.0, λ i. record { place = place; to = p.1 i; going = false })
 
 pub returns-in-None : goal.returns-in-None
 unfolding shown_lines shown_next

@@ -1,9 +1,7 @@
 -- `desk::reads::show_result` meets its contract: its lines are those of the part of the answer that the data are. Assumes nothing.
-use mathlib.Core.Path.{◌≡◌}
-use mathlib.Core.Bool.{true}
-use Prim.Native.Nat.{◌+◌, ◌-◌, ◌*◌}
-use native.Mathlib.Omega.{arith}
+use Rattle.std.proofs.Common.{◌≡◌, ◌+◌, ◌-◌, ◌*◌, Some, ap, arith}
 use Rattle.octets.proofs.Writes.{part_length}
+use Rattle.desk.specs.Reads.{shown}
 use Rattle.desk.proofs.reads.show_result.Goals as goal
 
 pub returns : goal.returns
@@ -13,4 +11,4 @@ returns c =
     let n : a.from + a.count - a.from ≡ a.count = omega arith in
     let l = part_length a.answer.now a.from a.count c.requires.inside in
     let to : c.put_result-next.result ≡ a.to + 2 * a.count + 18 = rw (n, l) at p.1 in
-    (rw n at p.0, λ i. record { place = a.from + a.count + 2; to = to i; going = true })
+    (rw n at p.0, ap (shown (Some (a.from + a.count + 2))) to)
