@@ -5,7 +5,8 @@ use desk::builds::{MOST_PRINTED, MOST_READ};
 use std::io;
 use streams::read_full;
 
-// Reads standard input, and writes what is printed for it.
+// Reads standard input, and writes what is printed for it. One function for this and `read` would take the call as a closure: what it asks of
+// every text and memory, and that it gives no more than the memory has, would be more lines than these.
 fn main(rt: HostRuntime) -> io::Result<()> {
     let mut text = [0u8; MOST_READ];
     let n = read_full(&mut rt.stdin(), &mut text)?;

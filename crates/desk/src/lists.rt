@@ -53,6 +53,7 @@ pub fn list_from(
     let mut number: usize = 2;
     let mut size: usize = 0;
     let mut held: usize = 0;
+    // The last line feed may be missing: `split` would give an empty line behind one that is there, and one of a text with no line.
     while at < text.len() {
         let end = value_end(text, at, b'\n');
         let line = &text[at..end];

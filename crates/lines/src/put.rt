@@ -1,4 +1,5 @@
-// Writing values under their names.
+// Writing values under their names. It is done by hand: `write!` promises what it wrote only where it gives Ok, and of a lent slice not even
+// then, and here every byte is promised always.
 ghost use Rattle.std.specs.Prelude.{◌≡◌, ◌+◌, ◌*◌, ◌≤◌, length};
 ghost use Rattle.octets.specs.Bytes.{overwrite};
 ghost use Rattle.lines.specs.Digits.{decimal, hex_of};

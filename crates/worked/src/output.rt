@@ -23,7 +23,7 @@ pub fn put_lines(
     let fourth = put_bytes(out, third, b"response=", response, b'\n');
     let head = journal::read::head_of(journal);
     let fifth = put_number(out, fourth, b"used=", head.used, b'\n');
-    put_number(out, fifth, b"scripts=", octets::wide(head.scripts), b'\n')
+    put_number(out, fifth, b"scripts=", usize::from(head.scripts), b'\n')
 }
 
 // Puts the one line for an input of another shape at the start of `out`. Returns the place after it.

@@ -25,7 +25,7 @@ returns c =
     let p₅ = c.put_number.ensures in
     let own = c.head_of-head.ensures.0 in
     let u = own_used a.journal.now own in
-    let t = c.wide.ensures.0 ∙ own_scripts a.journal.now own in
+    let t = c.from.ensures ∙ own_scripts a.journal.now own in
     let w = behind (put p₁.0 p₁.1) (behind (put p₂.0 p₂.1) (behind (put p₃.0 p₃.1) (behind (put p₄.0 p₄.1) (put p₅.0 p₅.1)))) in
     let most : c.put_number.result ≤ most_printed = omega (arith, p₁.2, p₂.2, p₃.2, p₄.2, p₅.2, c.requires) in (
       w.memory (omega (arith, most, c.requires)) ∙ ap₂ (λ (x y : ℕ). overwrite a.out.now 0 (five_lines a.refusal a.executed a.response.now x y)) u t,
