@@ -125,4 +125,5 @@ module _ {bs : List ℕ} {most from to : ℕ} (lies : HexLies bs most from to) w
   pub found_bytes : 2 * length (decoded (part bs from (to - from))) ≤ most
   found_bytes = digits_bytes most (part bs from (to - from)) lies.digits
 
+-- the laws by which the loop of `decode` is proved
 pub ruleset pairs = (hex_here, hex_rest, pair_rest, bytes_end, bytes_length)

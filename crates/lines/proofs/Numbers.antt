@@ -1,4 +1,4 @@
--- What a sign stands for, the number of a run of digits, sign by sign, and a number without a zero in front, test by test. Assumes nothing.
+-- What a sign stands for at most, and the number of a run of digits, sign by sign. Assumes nothing.
 use mathlib.Core.Path.{◌≡◌}
 use mathlib.Core.Bool.{◌&&◌}
 use mathlib.Core.List.{List}
@@ -56,4 +56,5 @@ module _ (base n d i : ℕ) (small : n < base ^ i) (less : d < base) where
       let h : base ^ (i + 1) ≤ 1048576 = le_trans (pow-le-pow_left most (i + 1)) (pow-le-pow_right {n = 16} (omega arith) five) in
       omega (arith, one_more)
 
+-- the laws by which the loop of `number_of` is proved
 pub ruleset numbers = (number_ends, number_next, digit_less, one_more, five_small)

@@ -1,4 +1,5 @@
--- What reading a value or a number at a place comes to, case by case. Assumes nothing.
+-- Where a value ends, byte by byte; whether a name stands in front of it, as the library says it; and how large a number of few digits is.
+-- Assumes nothing.
 use mathlib.Core.Path.{◌≡◌, refl, sym, ◌∙◌}
 use mathlib.Core.Bool.{true, false, ◌&&◌, false≢true}
 use mathlib.Core.Logic.{⊎_elim}
@@ -62,6 +63,7 @@ begins_with (b ∷ bs) (d ∷ ds) = λ i. same_turned d b i && begins_with bs ds
 pub lent_rest : (bs : List ℕ) (at : ℕ) → part bs at (length bs - at) ≡ drop at bs
 lent_rest bs at = take_all (length bs - at) (drop at bs) (simp length-drop (omega arith))
 
+-- the laws by which `value_end` is proved, and `value_at`
 pub ruleset ends = (ends_here, value_goes_on, value_ends)
 
 pub ruleset behind = (begins_with, lent_rest, past_end)
