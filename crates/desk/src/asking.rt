@@ -49,6 +49,7 @@ fn kind_of(line: &[u8]) -> Option<usize>
 }
 
 // Returns the fields of a line behind the name of its kind, but for the last.
+#[tactic(auto, using(crate::proofs::Standing::fields_behind), unfolding(crate::specs::Asking::which_of, octets::specs::Choice::pick))]
 fn which_of(kind: usize, line: &[u8]) -> Option<Fields>
     requires { Some kind ≡ spec.kind_of line.now }
     ensures { (result ≡ spec.which_of kind line.now) × FieldsFit 7 (length line.now) result }
