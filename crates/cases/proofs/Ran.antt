@@ -10,7 +10,7 @@ use Rattle.journal.specs.Sound.{journal_length}
 use Rattle.engine.specs.Calls.{Result}
 use Rattle.engine.specs.Worked.{answer_of}
 use Rattle.lines.specs.Digits.{decoded}
-use Rattle.lines.specs.declared.calls.Call.{Call}
+use Rattle.engine.specs.declared.Call.{Call}
 use Rattle.cases.specs.Cases.{ran_on, head_and_used, labelled, run_line, case_line}
 
 -- so many elements, or all where there are fewer

@@ -12,7 +12,7 @@ use Rattle.lines.specs.Digits.{ascii, few_hex, decoded, hex_of, decimal}
 use Rattle.lines.specs.Named.{line_feed, space, named}
 use Rattle.lines.specs.Values.{value_end, hex_at, HexLies, then}
 use Rattle.lines.specs.Calls.{call_at, run_on_worked}
-use Rattle.lines.specs.declared.calls.Call.{Call}
+use Rattle.engine.specs.declared.Call.{Call}
 use Rattle.cases.specs.declared.input.Case.{Case}
 
 -- the most that a label has, and the byte behind it

@@ -2,9 +2,9 @@
 ghost use Rattle.std.specs.Prelude.{◌≡◌};
 ghost use Rattle.cases.specs.Cases as spec;
 
-use engine::LONGEST_SCRIPT;
+use engine::{Call, LONGEST_SCRIPT};
 use journal::JOURNAL_LENGTH;
-use lines::calls::{Call, call_at};
+use lines::calls::call_at;
 use lines::values::{hex_at, value_end};
 
 // A case: where its label ends, what a run is called with, and where the digits of the journal and of the script begin and end.

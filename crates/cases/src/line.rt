@@ -8,7 +8,7 @@ ghost use Rattle.cases.specs.Cases as spec;
 use crate::input::case_of;
 use engine::LONGEST_SCRIPT;
 use journal::JOURNAL_LENGTH;
-use lines::calls::Call;
+use engine::Call;
 use lines::digits::decode;
 use lines::put::{put_bytes, put_number};
 use lines::worked::{LENT_RESPONSE, run_on_worked};

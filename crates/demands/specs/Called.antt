@@ -1,7 +1,7 @@
 -- A call with all that it is called with, what it gives on a card, and what its caller gets to see of that.
 use Rattle.std.specs.Prelude.{ℕ, List, [], take}
 use Rattle.card.specs.Row.{Card}
-use Rattle.engine.specs.Numbers.{Answer}
+use Rattle.engine.specs.declared.Answer.{Answer}
 use Rattle.engine.specs.Numbers.{Arguments}
 use Rattle.engine.specs.Calls.{Result, run, take_back, confirm}
 

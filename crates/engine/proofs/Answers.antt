@@ -10,7 +10,8 @@ use Rattle.card.specs.Row.{Card}
 use Rattle.journal.specs.Entries.{scripts_on_trial}
 use Rattle.journal.specs.Sound.{sound_card}
 use Rattle.journal.specs.Changes.{taken_back, confirmed}
-use Rattle.engine.specs.Numbers.{Answer, numbered, first_given, not_sound, take_back_refusals, confirm_refusals}
+use Rattle.engine.specs.declared.Answer.{Answer}
+use Rattle.engine.specs.Numbers.{numbered, first_given, not_sound, take_back_refusals, confirm_refusals}
 use Rattle.engine.specs.Calls.{Result, gives, unless_refused, take_back, confirm}
 use Rattle.engine.specs.Promised.{AnswerFits}
 

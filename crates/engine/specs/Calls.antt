@@ -13,7 +13,8 @@ use Rattle.compact.specs.Compact as compact
 use Rattle.expanded.specs.Expanded as expanded
 use Rattle.expanded.specs.Expanded.{Progress}
 use Rattle.engine.specs.declared.Call.{Call}
-use Rattle.engine.specs.Numbers.{Answer, numbered, Arguments, format_of, first_given, run_refusals, take_back_refusals, confirm_refusals}
+use Rattle.engine.specs.declared.Answer.{Answer}
+use Rattle.engine.specs.Numbers.{numbered, Arguments, format_of, first_given, run_refusals, take_back_refusals, confirm_refusals}
 
 -- what a call gives: its answer, the card after it, and the response memory after it
 pub record Result : Type 0 where

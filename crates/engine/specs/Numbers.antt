@@ -10,17 +10,12 @@ use Rattle.journal.specs.Sound.{mark_fits, sound_card}
 use Rattle.command.specs.declared.Format.{Format}
 use Rattle.command.specs.declared.Format.TheVariants.{Compact, Expanded}
 use Rattle.step.specs.Limits.{longest_script}
+use Rattle.engine.specs.declared.Answer.{Answer}
 use Rattle.engine.specs.declared.Done.{Done}
 use Rattle.engine.specs.declared.Refused.{Refused}
 use Rattle.engine.specs.declared.Refused.TheVariants.{NotSound, UnknownArgument, ScriptLength, ResponseShort, JournalFull, NoTemplate, NothingOnTrial}
 use Rattle.engine.specs.declared.numbers.Start.{Start}
 use Rattle.engine.specs.declared.numbers.Start.TheVariants as starts
-
--- what a call answers: its number, the length of its answer and the count of commands
-pub record Answer : Type 0 where
-  pub number : ℕ
-  pub length : ℕ
-  pub count : ℕ
 
 -- a number alone: length 0 and count 0
 abbrev pub numbered : ℕ → Answer

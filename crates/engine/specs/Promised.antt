@@ -10,7 +10,8 @@ use Rattle.engine.specs.declared.numbers.Start.{Start}
 use Rattle.engine.specs.declared.numbers.Start.TheVariants.{Compact, Expanded}
 use Rattle.step.specs.Limits.{longest_script}
 use Rattle.tlv.specs.Promised.{TemplateFits}
-use Rattle.engine.specs.Numbers.{Answer, Arguments, least_response}
+use Rattle.engine.specs.declared.Answer.{Answer}
+use Rattle.engine.specs.Numbers.{Arguments, least_response}
 
 -- an answer's numbers are small: they find room in one number at the C boundary
 abbrev pub AnswerFits : Answer → Type 0

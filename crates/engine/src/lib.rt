@@ -63,6 +63,33 @@ impl Refused {
     }
 }
 
+// A call's answer in the paper's numbers: the call number, 0 where it was accepted, the length of the answer, and the count of commands.
+#[derive(Clone, Copy, Debug, PartialEq, Eq)]
+pub struct Answer {
+    pub number: usize,
+    pub length: usize,
+    pub count: usize,
+}
+
+impl From<Result<Done, Refused>> for Answer {
+    ghost from_gives = { λ given answer. answer ≡ answer_of given };
+
+    fn from(given: Result<Done, Refused>) -> Answer {
+        match given {
+            Ok(done) => Answer {
+                number: 0,
+                length: done.length,
+                count: done.count,
+            },
+            Err(e) => Answer {
+                number: e.number(),
+                length: 0,
+                count: 0,
+            },
+        }
+    }
+}
+
 // Runs a script where no number refuses it, and writes its answer to the front of `response`. Returns the answer's length and the count of
 // commands.
 pub fn run(

@@ -1,11 +1,11 @@
 -- What the lines call a run with, and the run on the worked card: "1 to 3 decimal digits, two hex digits, one decimal digit".
 use Rattle.std.specs.Prelude.{ℕ, List, Option, Some, None}
 use Rattle.card.specs.Row.{lent}
-use Rattle.engine.specs.Calls.{Result, run}
+use Rattle.engine.specs.Calls.{Result, arguments_of, run}
 use Rattle.engine.specs.Worked.{worked}
 use Rattle.lines.specs.Digits.{ascii}
 use Rattle.lines.specs.Values.{number_at, then}
-use Rattle.lines.specs.declared.calls.Call.{Call}
+use Rattle.engine.specs.declared.Call.{Call}
 
 -- the three numbers from a place on, the first behind a name, each with the same byte behind it; and the place behind them
 unfoldable pub call_at : List ℕ → ℕ → List ℕ → ℕ → Option (Call × ℕ)
@@ -18,12 +18,4 @@ call_at bs at name stop =
 -- a run of a script on the worked card with another journal
 unfoldable pub run_on_worked : Call → List ℕ → List ℕ → List ℕ → Result
 run_on_worked call script response journal =
-    run
-    (record {
-      application = call.application;
-      domain = call.domain;
-      format = call.format;
-      script = script;
-      response = response;
-    })
-    (lent worked.table worked.files journal)
+    run (arguments_of call script response) (lent worked.table worked.files journal)

@@ -3,14 +3,7 @@ ghost use Rattle.std.specs.Prelude.{◌≡◌, ◌≤◌, length};
 ghost use Rattle.lines.specs.Calls as spec;
 
 use crate::values::number_at;
-
-// What a run is called with besides the script and the card.
-#[derive(Clone, Copy)]
-pub struct Call {
-    pub application: usize,
-    pub domain: u8,
-    pub format: u8,
-}
+use engine::Call;
 
 // Returns what a run is called with, three numbers from the place `at` on, the first behind `name`, each up to the byte `stop`, and the place
 // behind them; none where others stand there.

@@ -3,9 +3,9 @@ ghost use Rattle.std.specs.Prelude.{◌≡◌, ◌≤◌, length};
 ghost use Rattle.engine.specs.Worked.{worked};
 ghost use Rattle.lines.specs.Calls as spec;
 
-use crate::calls::Call;
 use crate::digits::decode;
-use engine::Answer;
+use card::lent::LentCard;
+use engine::{Answer, Call};
 
 // How many bytes of response memory the programs lend to a run on the worked card.
 pub const LENT_RESPONSE: usize = 1024;
@@ -41,14 +41,10 @@ pub fn run_on_worked(call: Call, script: &[u8], response: &mut [u8], journal: &m
 {
     let mut table = worked_table();
     let mut files = worked_files();
-    engine::run(
-        call.application,
-        call.domain,
-        call.format,
-        script,
-        response,
-        &mut table,
-        &mut files,
+    let mut card = LentCard {
+        table: &mut table,
+        files: &mut files,
         journal,
-    )
+    };
+    Answer::from(engine::run(call, script, response, &mut card))
 }

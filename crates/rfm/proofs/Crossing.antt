@@ -7,7 +7,7 @@ use native.Mathlib.Omega.{arith}
 use Rattle.boundary.specs.Packed.{Fits}
 use Rattle.boundary.proofs.Apart.{number_back, count_back, length_back}
 use Rattle.card.specs.Row.{Card}
-use Rattle.engine.specs.Numbers.{Answer}
+use Rattle.engine.specs.declared.Answer.{Answer}
 use Rattle.engine.specs.Calls.{Result, gives}
 use Rattle.engine.specs.Promised.{AnswerFits}
 use Rattle.rfm.specs.Packed.{packed_answer, answer_in, crosses, across}

@@ -2,7 +2,7 @@
 use Rattle.std.specs.Prelude.{ℕ, List}
 use Rattle.boundary.specs.Packed.{packed, number_in, count_in, length_in}
 use Rattle.card.specs.Row.{Card}
-use Rattle.engine.specs.Numbers.{Answer}
+use Rattle.engine.specs.declared.Answer.{Answer}
 use Rattle.engine.specs.Calls.{Result}
 
 -- an answer in one number

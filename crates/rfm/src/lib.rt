@@ -10,17 +10,15 @@ ghost use Rattle.engine.specs.Promised.{AnswerFits};
 
 use boundary::packed;
 use card::lent::LentCard;
-use engine::{Call, Done, Refused};
+use engine::{Answer, Call, Done, Refused};
 
 // Returns what a call gives in one number.
 fn packed_answer(given: Result<Done, Refused>) -> u64
     requires { AnswerFits (answer_of given) }
     ensures { result ≡ packed_answer (answer_of given) }
 {
-    match given {
-        Ok(done) => packed(0, done.count, done.length),
-        Err(e) => packed(e.number(), 0, 0),
-    }
+    let answer = Answer::from(given);
+    packed(answer.number, answer.count, answer.length)
 }
 
 // Runs a script, with its answer at the front of `response`. Returns the call's number, count and length in one number.

@@ -20,7 +20,7 @@ use Rattle.std.specs.Prelude.{Option, Some, None, IfSome, option_map, option_and
 use Rattle.std.specs.Bool.{then_some}
 use mathlib.Core.Bool.{Bool, true, false}
 use Rattle.lines.specs.Digits.{ascii, number_of, few_hex, most_digits}
-use Rattle.lines.specs.declared.calls.Call.{Call}
+use Rattle.engine.specs.declared.Call.{Call}
 use Rattle.lines.specs.Named.{line_feed}
 use Rattle.lines.specs.Values.{value_end, value_at, before, number_in, number_at, hex_in, hex_at, then}
 use Rattle.lines.specs.Calls.{call_at}

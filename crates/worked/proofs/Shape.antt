@@ -10,7 +10,7 @@ use Rattle.journal.specs.Sound.{journal_length}
 use Rattle.journal.specs.Entries.{used_bytes, scripts_on_trial}
 use Rattle.engine.specs.Calls.{Result}
 use Rattle.engine.specs.Worked.{worked, lent_response, answer_of}
-use Rattle.lines.specs.declared.calls.Call.{Call}
+use Rattle.engine.specs.declared.Call.{Call}
 use Rattle.lines.specs.Calls.{run_on_worked}
 use Rattle.worked.specs.declared.input.Asked.{Asked}
 use Rattle.worked.specs.Input.{input_of}

@@ -7,7 +7,7 @@ use Rattle.engine.specs.Calls.{Result, run}
 use Rattle.engine.specs.Worked.{worked, lent_response, answer_of}
 use Rattle.lines.specs.Digits.{ascii, decoded, hex_of, decimal}
 use Rattle.lines.specs.Named.{line_feed, named}
-use Rattle.lines.specs.declared.calls.Call.{Call}
+use Rattle.engine.specs.declared.Call.{Call}
 use Rattle.worked.specs.declared.input.Asked.{Asked}
 use Rattle.worked.specs.Input.{input_of}
 

@@ -2,7 +2,8 @@
 ghost use Rattle.std.specs.Prelude.{◌≡◌};
 ghost use Rattle.worked.specs.Input as spec;
 
-use lines::calls::{Call, call_at};
+use engine::Call;
+use lines::calls::call_at;
 use lines::values::hex_at;
 
 // "0 to 16,384 hex digits"
