@@ -2,7 +2,7 @@
 #![tactic(auto)]
 
 ghost use Rattle.std.specs.Prelude.{◌≡◌, [], ◌∷◌, ◌++◌, ◌+◌, ◌≤◌, ◌<◌, length, drop, replicate};
-ghost use Rattle.octets.specs.Bytes.{part, num_at, bytes2, overwrite, all_zero, same, starts_with, contains};
+ghost use Rattle.octets.specs.Bytes.{num_at, bytes2, overwrite, all_zero, same, starts_with, contains};
 
 // Returns a byte as a number.
 pub fn wide(b: u8) -> usize
