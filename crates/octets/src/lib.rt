@@ -36,12 +36,15 @@ pub fn put_num(m: &mut [u8], at: usize, n: usize)
     copy(m, at, &bytes2(n));
 }
 
-// Copies the bytes of `d` into `m`, from the place `at` on.
+// Copies the bytes of `d` into `m`, from the place `at` on. A loop, since copy_from_slice calls memmove, and the code needs nothing but
+// memcpy and memset (include/rfm.h).
 pub fn copy(m: &mut [u8], at: usize, d: &[u8])
     requires { at + length d.now ≤ length m.old }
     ensures { m.new ≡ overwrite m.old at d.now }
 {
-    m[at..at + d.len()].copy_from_slice(d);
+    for (i, b) in d.iter().enumerate() {
+        m[at + i] = *b;
+    }
 }
 
 // Fills the n bytes from the place `at` on with the byte b.

@@ -1,7 +1,17 @@
--- `octets::copy` meets its contract: what replaces a part as long as the run is written at its place. Assumes nothing.
-use mathlib.Core.Path.{refl}
-use Rattle.octets.proofs.Writes.{write_lent}
+-- `octets::copy` meets its contract. The loop's invariant: the first i bytes of the run are written at the place, and nothing else. Assumes nothing.
+use mathlib.Core.Path.{refl, sym, ap, ◌∙◌}
+use native.Mathlib.Omega.{arith}
+use lib.ListN.{length-set}
+use lib.Seq.{take_all}
+use Rattle.octets.specs.Bytes.{overwrite}
+use Rattle.octets.proofs.Writes.{write-none, write-next}
 use Rattle.octets.proofs.copy.Goals as goal
 
+pub loop-i-init : goal.loop-i-init
+loop-i-init c = (refl, sym (write-none c.args.m.now c.args.at))
+
+pub loop-i-preserved : goal.loop-i-preserved
+loop-i-preserved c = (simp length-set (omega arith), write-next _ _ _ _ _ c.requires (omega arith) c.loop-i.invariant.1)
+
 pub returns : goal.returns
-returns c = write_lent c.args.m.now c.args.at _ c.copy_from_slice.ensures.after refl
+returns c = c.loop-i.invariant.1 ∙ ap (overwrite _ _) (take_all c.loop-i.i c.args.d.now (omega arith))
