@@ -7,6 +7,7 @@ ghost use Rattle.card.specs.Records.{cyclic_place, record_offset, oldest_place};
 use crate::Row;
 
 // Returns the place of record r among m records, with the newest at place k.
+#[tactic(auto, unfolding(crate::specs::Records::cyclic_place))]
 fn cyclic_place(m: usize, k: usize, r: usize) -> usize
     requires { (1 ≤ m) × (1 ≤ r) × (k + r < 131072) }
     ensures { (result ≡ cyclic_place m k r) × (result < m) }

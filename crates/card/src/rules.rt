@@ -47,6 +47,7 @@ pub(crate) fn place_sound(e: usize, parent: Row, r: Row) -> bool
 }
 
 // Returns whether an entry's identifier, and an ADF's parent, are sound.
+#[tactic(auto, unfolding(crate::specs::Sound::name_sound, octets::specs::Choice::pick))]
 pub(crate) fn name_sound(r: Row) -> bool
     ensures { result ≡ name_sound r }
 {
@@ -67,6 +68,7 @@ fn directory_sound(r: Row) -> bool
 }
 
 // Returns whether a value of byte 9, the place of the newest record, is sound.
+#[tactic(auto, unfolding(crate::specs::Sound::newest_sound, octets::specs::Choice::pick))]
 pub fn newest_sound(r: Row, place: usize) -> bool
     ensures { result ≡ newest_sound r place }
 {
@@ -88,6 +90,7 @@ pub fn state_sound(state: usize) -> bool
 }
 
 // Returns whether a file's record length and record count are sound.
+#[tactic(auto, unfolding(crate::specs::Sound::records_sound, octets::specs::Choice::pick))]
 fn records_sound(r: Row) -> bool
     ensures { result ≡ records_sound r }
 {
@@ -104,6 +107,7 @@ fn records_sound(r: Row) -> bool
 }
 
 // Returns whether what a file's entry holds is sound, over a file memory of `files` bytes.
+#[tactic(auto, unfolding(crate::specs::Sound::file_sound))]
 fn file_sound(files: usize, r: Row) -> bool
     requires { RowFits r }
     ensures { result ≡ file_sound files r }
@@ -122,6 +126,7 @@ fn zeros_sound(r: Row) -> bool
 }
 
 // Returns whether an entry is sound by itself, over a file memory of `files` bytes.
+#[tactic(auto, unfolding(crate::specs::Sound::own_sound, octets::specs::Choice::pick))]
 pub(crate) fn own_sound(files: usize, r: Row) -> bool
     requires { RowFits r }
     ensures { result ≡ own_sound files r }
@@ -154,6 +159,7 @@ fn lie_apart(a: Row, b: Row) -> bool
 }
 
 // Returns whether two entries are sound beside each other.
+#[tactic(auto, unfolding(crate::specs::Sound::pair_sound))]
 pub(crate) fn pair_sound(a: Row, b: Row) -> bool
     requires { RowFits a × RowFits b }
     ensures { result ≡ pair_sound a b }

@@ -97,6 +97,7 @@ fn moved(s: Standing, directory: usize, file: usize, number: u8) -> Standing
 }
 
 // Returns where the script stands after entry e, with its row r, was selected.
+#[tactic(auto, unfolding(crate::specs::Session::selected, octets::specs::Choice::pick))]
 pub fn selected(s: Standing, e: usize, r: Row) -> Standing
     requires { (e < 256) × (r.parent < 256) }
     ensures { result ≡ spec.selected s e r }

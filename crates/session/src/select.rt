@@ -15,6 +15,7 @@ fn if_named(table: &[u8], e: usize, identifier: usize) -> Option<usize>
 }
 
 // Returns the parent of a directory if it has the identifier, or else the DF child of that parent which has it.
+#[tactic(auto, unfolding(crate::specs::Select::above, card::specs::Tree::child_df))]
 fn above(table: &[u8], parent: usize, identifier: usize) -> Option<usize>
     requires { parent < entries table.now }
     ensures { result ≡ spec.above table.now parent identifier }
@@ -51,6 +52,7 @@ fn by_path(table: &[u8], from: usize, path: &[u8]) -> Option<usize>
 }
 
 // Returns the entry that a SELECT finds, from a root and a directory, with its P1 and data.
+#[tactic(auto, unfolding(crate::specs::Select::find, octets::specs::Choice::pick))]
 pub fn find(table: &[u8], root: usize, directory: usize, p1: usize, data: &[u8]) -> Option<usize>
     requires { StandsIn table.now root directory × (2 ≤ length «data».now) }
     ensures { result ≡ spec.find table.now root directory p1 «data».now }
