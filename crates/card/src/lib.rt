@@ -70,6 +70,7 @@ pub fn entries(table: &[u8]) -> usize
 }
 
 // Returns what the 16 bytes of an entry hold.
+#[tactic(auto, unfolding(crate::specs::Row::row))]
 fn row_of(bytes: &[u8]) -> Row
     requires { length bytes.now ≡ entry_size }
     ensures { (result ≡ row bytes.now) × RowFits result }
@@ -91,6 +92,7 @@ fn row_of(bytes: &[u8]) -> Row
 }
 
 // Returns what entry e of a table holds.
+#[tactic(auto, unfolding(crate::specs::Row::row_of, crate::specs::Row::entry))]
 pub fn row_at(table: &[u8], e: usize) -> Row
     requires { HasEntry table.now e }
     ensures { (result ≡ row_of table.now e) × RowFits result }

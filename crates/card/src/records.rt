@@ -25,6 +25,7 @@ pub fn record_count(f: Row) -> usize
 }
 
 // Returns where record r begins in its file.
+#[tactic(auto, unfolding(crate::specs::Records::record_offset, crate::specs::Records::record_place))]
 pub fn record_offset(f: Row, r: usize) -> usize
     requires { RecordOffsetAsks f r }
     ensures { (result ≡ record_offset f r) × (result + f.record_length ≤ f.size) }
@@ -35,6 +36,7 @@ pub fn record_offset(f: Row, r: usize) -> usize
 }
 
 // Returns the place of the oldest record of a file.
+#[tactic(auto, unfolding(crate::specs::Records::oldest_place, crate::specs::Records::record_place))]
 pub fn oldest_place(f: Row) -> usize
     requires { (1 ≤ f.record_length) × (1 ≤ record_count f) × RowFits f }
     ensures { (result ≡ oldest_place f) × (result < record_count f) }

@@ -13,6 +13,7 @@ const MOST_ENTRIES: usize = 64;
 const MOST_FILE_BYTES: usize = 32768;
 
 // Returns whether entry e is sound where it stands, over a file memory of `files` bytes.
+#[tactic(auto, unfolding(crate::specs::Sound::entry_sound, octets::specs::Choice::pick))]
 fn entry_sound(table: &[u8], files: usize, e: usize) -> bool
     requires { e < entries table.now }
     ensures { result ≡ entry_sound files e (row_of table.now (row_of table.now e).parent) (row_of table.now e) }
