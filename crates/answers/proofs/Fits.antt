@@ -10,6 +10,7 @@ use lib.Dec.{leb, ltb, eqb}
 use lib.ListN.{length}
 use borrow.Author.Tests.{leb-true, leb-false, ltb-true, ltb-false, eqb-true, not-false}
 use Rattle.std.specs.Prelude.{Option, Result, Ok, Err}
+use Rattle.std.specs.Result.{result_ok}
 use Rattle.octets.specs.Choice.{pick}
 use Rattle.octets.specs.Bytes.{byte, AllBytes, num_at}
 use Rattle.octets.proofs.Picks.{and_left, and_right, or_either, on_pick, either}
@@ -18,11 +19,10 @@ use Rattle.command.specs.declared.Format.TheVariants as formats
 use Rattle.answers.specs.declared.words.Words.TheVariants as words
 use Rattle.answers.specs.declared.results.Piece.{Piece}
 use Rattle.answers.specs.declared.results.Piece.TheVariants as pieces
-use Rattle.answers.specs.declared.results.Told.{Told}
 use Rattle.answers.specs.declared.turns.Turn.{Turn}
 use Rattle.answers.specs.declared.Summary.{Summary}
 use Rattle.answers.specs.Words.{has_data}
-use Rattle.answers.specs.Results.{piece_at, compact_word, compact_data, data_fit, compact_told, compact_at, piece_told, result_at}
+use Rattle.answers.specs.Results.{piece_at, compact_word, compact_data, data_fit, compact_told, compact_at, result_at}
 use Rattle.answers.specs.Answers.{data_read, word_read, compact_read, first_turn, answered_by, results_read}
 use Rattle.answers.specs.Answers.{count_read, count_sized, count_at, definite_sized, definite_read, indefinite_read, expanded_read, read_answer}
 use Rattle.answers.specs.Promised.{SizedFits, PieceFits, ToldFits, AnsweredFits}
@@ -31,8 +31,8 @@ use Rattle.answers.proofs.Places.{piece_fits, past_bad, ReadFits, turns_fit}
 
 -- ---- a result on its own
 
-piece_told-fits : (size at : ℕ) (piece : Result Piece ℕ) → PieceFits size at piece → ToldFits size at (piece_told piece)
-unfolding PieceFits ToldFits piece_told
+piece_told-fits : (size at : ℕ) (piece : Result Piece ℕ) → PieceFits size at piece → ToldFits size at (result_ok piece)
+unfolding PieceFits ToldFits
 piece_told-fits size at (Ok (pieces.Result word from count)) fits =
     record { further = fits.further; inside = omega (arith, fits.inside); small = fits.small; few = fits.few }
 piece_told-fits size at (Ok (pieces.BadFormat code place)) fits = fits.2
@@ -63,8 +63,8 @@ compact_told-fits size end (Ok word) inside fits =
 compact_told-fits size end (Err place) inside fits = tt
 
 module _ (answer : List ℕ) (bytes : AllBytes answer) where
-  expanded-told-fits : (end at : ℕ) → ToldFits (length answer) at (piece_told (piece_at answer true end at))
-  unfolding ToldFits piece_told
+  expanded-told-fits : (end at : ℕ) → ToldFits (length answer) at (result_ok (piece_at answer true end at))
+  unfolding ToldFits
   expanded-told-fits end at =
       ⊎_elim
       (λ here. piece_told-fits (length answer) at _ (piece_fits answer bytes at true end (ltb-true at (length answer) here)))
@@ -84,7 +84,7 @@ module _ (answer : List ℕ) (bytes : AllBytes answer) where
       (λ other. on_pick (ToldFits (length answer) at) (eqb format 1) _ _ (λ expanded. expanded-told-fits end at) (λ none. tt)))
 
   pub result_told :
-      (format at end : ℕ) {r : Option Told} → r ≡ result_at format answer at end → (r ≡ result_at format answer at end) × ToldFits (length answer) at r
+      (format at end : ℕ) {r : Option Piece} → r ≡ result_at format answer at end → (r ≡ result_at format answer at end) × ToldFits (length answer) at r
   result_told format at end e = (e, rw e (told-fits format at end))
 
 -- ---- answers

@@ -2,8 +2,6 @@
 use Rattle.std.specs.Prelude.{ℕ, ◌+◌, ◌≤◌, ◌<◌, Option, Some, None, Result, Ok, Err}
 use Rattle.answers.specs.declared.results.Piece.{Piece}
 use Rattle.answers.specs.declared.results.Piece.TheVariants as pieces
-use Rattle.answers.specs.declared.results.Told.{Told}
-use Rattle.answers.specs.declared.results.Told.TheVariants as told
 use Rattle.answers.specs.declared.turns.Turn.{Turn}
 use Rattle.answers.specs.declared.Summary.{Summary}
 
@@ -31,9 +29,9 @@ pub record ToldResult (size at word from count : ℕ) : Type 0 where
   pub small : word < 65536
   pub few : count < 65536
 
-unfoldable pub ToldFits : ℕ → ℕ → Option Told → Type 0
-ToldFits size at (Some (told.Result word from count)) = ToldResult size at word from count
-ToldFits size at (Some (told.BadFormat code)) = code ≤ 3
+unfoldable pub ToldFits : ℕ → ℕ → Option Piece → Type 0
+ToldFits size at (Some (pieces.Result word from count)) = ToldResult size at word from count
+ToldFits size at (Some (pieces.BadFormat code place)) = code ≤ 3
 ToldFits size at None = Unit
 
 -- a reading of results on its way: its place lies in the answer, and each result took a byte or more

@@ -1,5 +1,6 @@
 -- One result of an answer: an R-APDU, "23, length, data, status", or a "Bad format TLV 90 01". Each reading that fails has its place.
 use Rattle.std.specs.Prelude.{ℕ, ◌+◌, ◌-◌, Bool, true, not, ◌&&◌, ◌||◌, List, length, leb, ltb, eqb, Option, Some, None, Result, Ok, Err}
+use Rattle.std.specs.Result.{result_ok}
 use Rattle.octets.specs.Choice.{pick}
 use Rattle.octets.specs.Bytes.{byte}
 use Rattle.tlv.specs.Lengths.{length_at, length_missing}
@@ -11,8 +12,6 @@ use Rattle.answers.specs.declared.words.Words.{Words}
 use Rattle.answers.specs.declared.words.Words.TheVariants as words
 use Rattle.answers.specs.declared.results.Piece.{Piece}
 use Rattle.answers.specs.declared.results.Piece.TheVariants as pieces
-use Rattle.answers.specs.declared.results.Told.{Told}
-use Rattle.answers.specs.declared.results.Told.TheVariants as told
 use Rattle.answers.specs.Words.{has_data, word_at}
 
 -- how many bytes the form of a length has behind its first
@@ -87,25 +86,19 @@ unfoldable pub data_fit : ℕ → ℕ → Bool
 data_fit word count = eqb count 0 || (has_data word && leb count (most_read formats.Compact))
 
 -- the one result of a compact answer that ends at `end`
-unfoldable pub compact_told : ℕ → Result ℕ ℕ → Option Told
+unfoldable pub compact_told : ℕ → Result ℕ ℕ → Option Piece
 compact_told end (Ok word) =
-    pick (leb compact_data end && data_fit word (end - compact_data)) (Some (told.Result word compact_data (end - compact_data))) None
+    pick (leb compact_data end && data_fit word (end - compact_data)) (Some (pieces.Result word compact_data (end - compact_data))) None
 compact_told end (Err place) = None
 
-unfoldable pub compact_at : List ℕ → ℕ → ℕ → Option Told
+unfoldable pub compact_at : List ℕ → ℕ → ℕ → Option Piece
 compact_at answer at end = pick (eqb at compact_word) (compact_told end (word_at words.Compact answer compact_word)) None
 
--- a result of an expanded answer
-unfoldable pub piece_told : Result Piece ℕ → Option Told
-piece_told (Ok (pieces.Result word from count)) = Some (told.Result word from count)
-piece_told (Ok (pieces.BadFormat code place)) = Some (told.BadFormat code)
-piece_told (Err place) = None
-
 -- the whole result that stands at a place of an answer whose results end at `end`, or none
-unfoldable pub result_at : ℕ → List ℕ → ℕ → ℕ → Option Told
+unfoldable pub result_at : ℕ → List ℕ → ℕ → ℕ → Option Piece
 result_at format answer at end =
     pick (ltb (length answer) end)
     None
     (pick (eqb format 0)
     (compact_at answer at end)
-    (pick (eqb format 1) (piece_told (piece_at answer true end at)) None))
+    (pick (eqb format 1) (result_ok (piece_at answer true end at)) None))

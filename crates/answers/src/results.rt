@@ -1,5 +1,6 @@
 // One result of an answer: an R-APDU or a Bad format TLV.
 ghost use Rattle.std.specs.Prelude.{◌≡◌, true, ◌≤◌, ◌<◌, length};
+ghost use Rattle.std.specs.Result.{result_ok};
 ghost use Rattle.answers.specs.Results as spec;
 ghost use Rattle.answers.specs.Promised.{SizedFits, ToldFits};
 
@@ -20,13 +21,6 @@ pub const MOST_DATA: usize = 256;
 pub enum Piece {
     Result(usize, usize, usize),
     BadFormat(usize, usize),
-}
-
-// A result on its own: its word, where its data begin and how many there are; or the code of a Bad format TLV.
-#[derive(Clone, Copy)]
-pub enum Told {
-    Result(usize, usize, usize),
-    BadFormat(usize),
 }
 
 // Returns the place where the reading of a length at `at` stops that ends in a code.
@@ -153,7 +147,7 @@ fn data_fit(word: usize, count: usize) -> bool
 
 // Returns the one result of a compact answer that ends at `end`, where its word stands at the place `at`.
 #[tactic(auto, using(octets::proofs::Picks::choices), unfolding(crate::specs::Results::compact_at, crate::specs::Results::compact_told))]
-fn compact_at(answer: &[u8], at: usize, end: usize) -> Option<Told>
+fn compact_at(answer: &[u8], at: usize, end: usize) -> Option<Piece>
     ensures { result ≡ spec.compact_at answer.now at end }
 {
     if at != COMPACT_WORD {
@@ -165,28 +159,24 @@ fn compact_at(answer: &[u8], at: usize, end: usize) -> Option<Told>
     }
     let count = end - COMPACT_DATA;
     if data_fit(word, count) {
-        return Some(Told::Result(word, COMPACT_DATA, count));
+        return Some(Piece::Result(word, COMPACT_DATA, count));
     }
     None
 }
 
 // Returns the result of an expanded answer that stands at the place `at`, before `end`.
-#[tactic(auto, using(crate::proofs::Places::past_bad), unfolding(crate::specs::Results::piece_told))]
-fn expanded_at(answer: &[u8], at: usize, end: usize) -> Option<Told>
-    ensures { result ≡ spec.piece_told (spec.piece_at answer.now true end at) }
+#[tactic(auto, using(crate::proofs::Places::past_bad))]
+fn expanded_at(answer: &[u8], at: usize, end: usize) -> Option<Piece>
+    ensures { result ≡ result_ok (spec.piece_at answer.now true end at) }
 {
     if answer.len() <= at {
         return None;
     }
-    match piece_at(answer, true, end, at) {
-        Ok(Piece::Result(word, from, count)) => Some(Told::Result(word, from, count)),
-        Ok(Piece::BadFormat(code, _)) => Some(Told::BadFormat(code)),
-        Err(_) => None,
-    }
+    piece_at(answer, true, end, at).ok()
 }
 
-// Returns the whole result that stands at the place `at` of an answer of a format whose results end at `end`; no more where none does.
-pub fn result_at(format: u8, answer: &[u8], at: usize, end: usize) -> Option<Told>
+// Returns the whole result that stands at the place `at` of an answer of a format whose results end at `end`; None where none does.
+pub fn result_at(format: u8, answer: &[u8], at: usize, end: usize) -> Option<Piece>
     ensures { (result ≡ spec.result_at format answer.now at end) × ToldFits (length answer.now) at result }
 {
     if answer.len() < end {

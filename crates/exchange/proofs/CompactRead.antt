@@ -34,7 +34,7 @@ use Rattle.compact.proofs.Fits.{outcome-inside}
 use Rattle.demands.specs.Commands.{after, Read, commands_from, commands_of, command_done, word_goes_on, states_after}
 use Rattle.demands.proofs.Commands.{compact-runs}
 use Rattle.answers.specs.declared.words.Words.TheVariants as words
-use Rattle.answers.specs.declared.results.Told.TheVariants.{Result}
+use Rattle.answers.specs.declared.results.Piece.TheVariants.{Result}
 use Rattle.answers.specs.Words.{has_data, is_word, begins_word, word_at}
 use Rattle.answers.specs.Results.{data_fit, compact_told, compact_at, result_at}
 use Rattle.answers.specs.Answers.{data_read, word_read, compact_read, read_answer}

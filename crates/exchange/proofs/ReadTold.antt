@@ -8,13 +8,14 @@ use native.Mathlib.Nat.{not-suc-le-zero}
 use native.Mathlib.Omega.{arith}
 use lib.ListN.{length, length-append}
 use borrow.Author.Tests.{le-leb}
-use Rattle.std.specs.Prelude.{Option, Some, None, Ok}
+use Rattle.std.specs.Prelude.{Option, Some, None}
+use Rattle.std.specs.Result.{result_ok}
 use Rattle.octets.specs.Choice.{pick}
 use Rattle.octets.specs.Bytes.{part}
 use Rattle.octets.proofs.Picks.{yes, lt_no}
-use Rattle.answers.specs.declared.results.Told.{Told}
-use Rattle.answers.specs.declared.results.Told.TheVariants.{Result, BadFormat}
-use Rattle.answers.specs.Results.{piece_at, piece_told, result_at}
+use Rattle.answers.specs.declared.results.Piece.{Piece}
+use Rattle.answers.specs.declared.results.Piece.TheVariants.{Result, BadFormat}
+use Rattle.answers.specs.Results.{piece_at, result_at}
 use Rattle.exchange.specs.ReadBack.{Reply, replied, bad_format, told_from}
 use Rattle.exchange.proofs.Replies.{encoded, all_encoded, GoodReply, AllGood}
 use Rattle.exchange.proofs.Places.{Stands, stands-first, stands_second, stands-inside}
@@ -23,31 +24,31 @@ use Rattle.exchange.proofs.ReadResults.{first_good, others-good}
 
 module _ (answer : List ℕ) (end : ℕ) where
   -- a result of an expanded answer is a piece before the end
-  piece_told_lem : (at : ℕ) → end ≤ length answer → result_at 1 answer at end ≡ piece_told (piece_at answer true end at)
+  piece_told_lem : (at : ℕ) → end ≤ length answer → result_at 1 answer at end ≡ result_ok (piece_at answer true end at)
   unfolding result_at pick
   piece_told_lem at inside = sym (lt_no (length answer) end _ inside refl)
 
   none_told : end ≤ length answer → result_at 1 answer end end ≡ None
-  unfolding piece_at piece_told
-  none_told inside = piece_told_lem end inside ∙ ap piece_told (sym (yes _ _ (rw (le-leb end (end + 1) (omega arith))) refl))
+  unfolding piece_at
+  none_told inside = piece_told_lem end inside ∙ ap result_ok (sym (yes _ _ (rw (le-leb end (end + 1) (omega arith))) refl))
 
   -- one telling by what is told
-  abbrev told_by : ℕ → Option Told → List Reply
+  abbrev told_by : ℕ → Option Piece → List Reply
   told_by n t =
       elim t [
         | Some (Result w from count) ↦ replied w (part answer from count) ∷ told_from n 1 answer (from + count + 2) end
-        | Some (BadFormat code) ↦ bad_format code ∷ []
+        | Some (BadFormat code place) ↦ bad_format code ∷ []
         | None ↦ []
       ]
 
-  told-by : (n at : ℕ) (t : Option Told) → result_at 1 answer at end ≡ t → told_from (suc n) 1 answer at end ≡ told_by n t
+  told-by : (n at : ℕ) (t : Option Piece) → result_at 1 answer at end ≡ t → told_from (suc n) 1 answer at end ≡ told_by n t
   unfolding told_from
   told-by n at t e = ap (told_by n) e
 
   -- a first reply and the others
-  reply_told : (n at : ℕ) (r : Reply) (rs : List Reply) → AllGood (r ∷ rs) → Stands (encoded r) answer at → result_at 1 answer at end ≡ piece_told (Ok (piece_of at r))
+  reply_told : (n at : ℕ) (r : Reply) (rs : List Reply) → AllGood (r ∷ rs) → Stands (encoded r) answer at → result_at 1 answer at end ≡ Some (piece_of at r)
       → told_from n 1 answer (at + length (encoded r)) end ≡ rs → told_from (suc n) 1 answer at end ≡ r ∷ rs
-  unfolding piece_told piece_of AllGood GoodReply
+  unfolding piece_of AllGood GoodReply
   reply_told n at (replied w d) rs good here told others =
       told-by n at _ told ∙ rw (behind-rapdu at d w, others, data_read_lem answer at w d (unfold encoded in here))
   reply_told n at (bad_format code) [] good here told others = told-by n at _ told
@@ -66,6 +67,6 @@ module _ (answer : List ℕ) (end : ℕ) where
       let first = first_good r rs good in
       let here = stands-first answer at (encoded r) (all_encoded rs) s in
       let piece = piece_read answer true end at r first.0 first.1 here (λ _. omega arith) in
-      let told = piece_told_lem at (omega (arith, stands-inside answer at (encoded r ++ all_encoded rs) s)) ∙ ap piece_told piece in
+      let told = piece_told_lem at (omega (arith, stands-inside answer at (encoded r ++ all_encoded rs) s)) ∙ ap result_ok piece in
       reply_told n at r rs good here told
       (told-read n rs (at + length (encoded r)) (others-good r rs good) (stands_second answer at (encoded r) (all_encoded rs) s) (omega arith) (omega arith))

@@ -13,8 +13,8 @@ use Rattle.boundary.proofs.Apart.{number_back, count_back, length_back, low_back
 use Rattle.operations.specs.declared.Numbers.{Numbers}
 use Rattle.operations.specs.Builds.{Building, BuiltFits, numbered}
 use Rattle.answers.specs.declared.Summary.{Summary}
-use Rattle.answers.specs.declared.results.Told.{Told}
-use Rattle.answers.specs.declared.results.Told.TheVariants as told
+use Rattle.answers.specs.declared.results.Piece.{Piece}
+use Rattle.answers.specs.declared.results.Piece.TheVariants as pieces
 use Rattle.answers.specs.Results.{result_at}
 use Rattle.answers.specs.Answers.{read_answer}
 use Rattle.answers.specs.Promised.{AnsweredFits, ToldFits}
@@ -92,16 +92,16 @@ module _ (format : ℕ) (answer : List ℕ) (place : ℕ) where
   unfolding result_parts
   none_told long = lt_yes most_answer (length answer) _ long refl
 
-  pub is-told : length answer ≤ most_answer → {t : Option Told} → t ≡ result_at format answer place (length answer) → told_parts t ≡ result_parts format answer place
+  pub is-told : length answer ≤ most_answer → {t : Option Piece} → t ≡ result_at format answer place (length answer) → told_parts t ≡ result_parts format answer place
   unfolding result_parts
   is-told short e = lt_no most_answer (length answer) _ short (ap told_parts e)
 
 pub nothing-few : Few (shown 0 0 0)
 nothing-few = record { word = omega arith; data_length = omega arith; place = omega arith }
 
-pub told-few : (size at : ℕ) (t : Option Told) → size ≤ most_answer → ToldFits size at t → Few (told_parts t)
+pub told-few : (size at : ℕ) (t : Option Piece) → size ≤ most_answer → ToldFits size at t → Few (told_parts t)
 unfolding ToldFits told_parts
-told-few size at (Some (told.Result word from count)) short fits =
+told-few size at (Some (pieces.Result word from count)) short fits =
     record { word = fits.small; data_length = fits.few; place = omega (arith, fits.inside) }
-told-few size at (Some (told.BadFormat code)) short fits = record { word = omega arith; data_length = omega arith; place = omega arith }
+told-few size at (Some (pieces.BadFormat code place)) short fits = record { word = omega arith; data_length = omega arith; place = omega arith }
 told-few size at None short fits = nothing-few

@@ -5,8 +5,8 @@ use Rattle.boundary.specs.Packed.{packed, number_in, count_in, length_in}
 use Rattle.operations.specs.declared.Numbers.{Numbers}
 use Rattle.operations.specs.Builds.{Building}
 use Rattle.answers.specs.declared.Summary.{Summary}
-use Rattle.answers.specs.declared.results.Told.{Told}
-use Rattle.answers.specs.declared.results.Told.TheVariants as told
+use Rattle.answers.specs.declared.results.Piece.{Piece}
+use Rattle.answers.specs.declared.results.Piece.TheVariants as pieces
 use Rattle.answers.specs.Results.{result_at}
 use Rattle.answers.specs.Answers.{read_answer}
 
@@ -85,9 +85,9 @@ shown word count place = record { word = word; data_length = count; place = plac
 abbrev pub shown_in : ℕ → Shown
 shown_in sum = shown (word_in sum) (data_length_in sum) (data_in sum)
 
-unfoldable pub told_parts : Option Told → Shown
-told_parts (Some (told.Result word from count)) = shown word count from
-told_parts (Some (told.BadFormat code)) = shown code 0 0
+unfoldable pub told_parts : Option Piece → Shown
+told_parts (Some (pieces.Result word from count)) = shown word count from
+told_parts (Some (pieces.BadFormat code place)) = shown code 0 0
 told_parts None = shown 0 0 0
 
 unfoldable pub result_parts : ℕ → List ℕ → ℕ → Shown

@@ -6,7 +6,7 @@ ghost use Rattle.operations.specs.Builds.{build};
 ghost use Rattle.rfm_desk.specs.Packed as spec;
 
 use answers::read_answer;
-use answers::results::{Told, result_at};
+use answers::results::{Piece, result_at};
 use boundary::packed;
 
 // The bytes of an answer that is read at most.
@@ -57,8 +57,8 @@ pub extern "C" fn rfm_result(format: u8, answer: &[u8], place: usize) -> u64
         return packed_result(0, 0, 0);
     }
     match result_at(format, answer, place, answer.len()) {
-        Some(Told::Result(word, from, count)) => packed_result(word, count, from),
-        Some(Told::BadFormat(code)) => packed_result(code, 0, 0),
+        Some(Piece::Result(word, from, count)) => packed_result(word, count, from),
+        Some(Piece::BadFormat(code, _)) => packed_result(code, 0, 0),
         None => packed_result(0, 0, 0),
     }
 }
