@@ -15,9 +15,9 @@ use Rattle.octets.specs.Choice.{pick}
 use Rattle.octets.specs.Bytes.{AllBytes, overwrite, part, bytes2}
 use Rattle.octets.proofs.Picks.{on_pick}
 use Rattle.octets.proofs.Writes.{part_length, write-length, write-none}
-use Rattle.answers.specs.declared.results.Told.{Told}
-use Rattle.answers.specs.declared.results.Told.TheVariants as results
-use Rattle.answers.specs.Results.{compact_told, compact_word, compact_at, piece_told, result_at}
+use Rattle.answers.specs.declared.results.Piece.{Piece}
+use Rattle.answers.specs.declared.results.Piece.TheVariants as results
+use Rattle.answers.specs.Results.{compact_told, compact_word, compact_at, result_at}
 use Rattle.answers.specs.Told.{replied, told_from}
 use Rattle.answers.specs.Promised.{ToldFits}
 use Rattle.answers.proofs.Places.{past_bad}
@@ -34,9 +34,9 @@ use Rattle.desk.specs.Reads.{reply_lines, all_lines, shown_lines, shown, shown_n
 
 -- ---- past the end of the answer no code stands
 
-unfoldable NoCode : Option Told → Type 0
+unfoldable NoCode : Option Piece → Type 0
 NoCode (Some (results.Result word from count)) = Unit
-NoCode (Some (results.BadFormat code)) = ⊥
+NoCode (Some (results.BadFormat code place)) = ⊥
 NoCode None = Unit
 
 compact_no_code : (end : ℕ) (w : Result ℕ ℕ) → NoCode (compact_told end w)
@@ -45,16 +45,16 @@ compact_no_code end (Ok word) = on_pick NoCode _ _ _ (λ fit. tt) (λ other. tt)
 compact_no_code end (Err place) = tt
 
 past_no_code : (format : ℕ) (answer : List ℕ) (at end : ℕ) → length answer ≤ at → NoCode (result_at format answer at end)
-unfolding NoCode result_at compact_at piece_told
+unfolding NoCode result_at compact_at
 past_no_code format answer at end past =
     on_pick NoCode (ltb (length answer) end) _ _ (λ outside. tt)
     (λ inside. on_pick NoCode (eqb format 0) _ _
     (λ compact. on_pick NoCode (eqb at compact_word) _ _ (λ here. compact_no_code end _) (λ other. tt))
     (λ other. on_pick NoCode (eqb format 1) _ _ (λ expanded. rw (past_bad answer at true end past) tt) (λ none. tt)))
 
-past-code : (format : ℕ) (answer : List ℕ) (at end code : ℕ) → length answer ≤ at → result_at format answer at end ≡ Some (results.BadFormat code) → ⊥
+past-code : (format : ℕ) (answer : List ℕ) (at end code place : ℕ) → length answer ≤ at → result_at format answer at end ≡ Some (results.BadFormat code place) → ⊥
 unfolding NoCode
-past-code format answer at end code past is = rw is at (past_no_code format answer at end past)
+past-code format answer at end code place past is = rw is at (past_no_code format answer at end past)
 
 -- ---- how many signs the lines of a result have
 
@@ -63,12 +63,12 @@ unfolding reply_lines named ascii bytes2 hex_of
 reply_length word d = simp (length-append, hex_length) (omega arith)
 
 shown_to :
-    (answer : List ℕ) (at to : ℕ) (t : Option Told) → ToldFits (length answer) at t
+    (answer : List ℕ) (at to : ℕ) (t : Option Piece) → ToldFits (length answer) at t
     → (shown_next t to).to ≡ to + length (shown_lines t answer)
 unfolding ToldFits shown_lines shown_next reply_lines named ascii hex_of
 shown_to answer at to (Some (results.Result word from count)) fits =
     omega (arith, reply_length word (part answer from count), part_length answer from count fits.inside)
-shown_to answer at to (Some (results.BadFormat code)) fits = refl
+shown_to answer at to (Some (results.BadFormat code there)) fits = refl
 shown_to answer at to None fits = omega arith
 
 -- ---- a printing on its way
@@ -84,17 +84,17 @@ abbrev pub left : ℕ → Option ℕ → ℕ
 left size next = option_map_or (λ place. size + 3 - place) next 0
 
 module _ (size place to : ℕ) (placed : place ≤ size + 2) where
-  bounded : (t : Option Told) → size ≤ longest_answer → to ≤ 27 + 5 * place → ToldFits size place t → Bounded size (shown_next t to)
+  bounded : (t : Option Piece) → size ≤ longest_answer → to ≤ 27 + 5 * place → ToldFits size place t → Bounded size (shown_next t to)
   unfolding ToldFits shown_next
   bounded (Some (results.Result word from count)) short printed fits =
       record { few = omega (arith, fits.further, fits.inside); placed = (omega (arith, fits.inside), omega (arith, fits.further)) }
-  bounded (Some (results.BadFormat code)) short printed fits = record { few = omega arith; placed = tt }
+  bounded (Some (results.BadFormat code there)) short printed fits = record { few = omega arith; placed = tt }
   bounded None short printed fits = record { few = omega arith; placed = tt }
 
-  fewer : (t : Option Told) → ToldFits size place t → left size (shown_next t to).next < size + 3 - place
+  fewer : (t : Option Piece) → ToldFits size place t → left size (shown_next t to).next < size + 3 - place
   unfolding ToldFits shown_next
   fewer (Some (results.Result word from count)) fits = omega (arith, fits.further)
-  fewer (Some (results.BadFormat code)) fits = omega arith
+  fewer (Some (results.BadFormat code there)) fits = omega arith
   fewer None fits = omega arith
 
 -- the lines of the results that are left, of which there are `n` at most
@@ -103,17 +103,17 @@ left_lines n format answer end next = option_map_or (λ place. all_lines (told_f
 
 -- the lines of a result, and of those behind it
 behind_it :
-    (format : ℕ) (answer : List ℕ) (end n place to : ℕ) (t : Option Told) → result_at format answer place end ≡ t
+    (format : ℕ) (answer : List ℕ) (end n place to : ℕ) (t : Option Piece) → result_at format answer place end ≡ t
     → ToldFits (length answer) place t → length answer ≤ place + n
     → (m : ℕ) × IfSome (shown_next t to).next (λ p. length answer ≤ p + m)
     × (shown_lines t answer ++ left_lines m format answer end (shown_next t to).next ≡ all_lines (told_from n format answer place end))
 unfolding ToldFits shown_lines shown_next all_lines told_from
 behind_it format answer end zero place to (Some (results.Result word from count)) is fits enough = absurd (omega (arith, fits.further, fits.inside))
-behind_it format answer end zero place to (Some (results.BadFormat code)) is fits enough =
-    absurd (past-code format answer place end code (omega arith) is)
+behind_it format answer end zero place to (Some (results.BadFormat code there)) is fits enough =
+    absurd (past-code format answer place end code there (omega arith) is)
 behind_it format answer end zero place to None is fits enough = (0, tt, refl)
 behind_it format answer end (suc m) place to (Some (results.Result word from count)) is fits enough = (m, omega (arith, fits.further), rw (is, all_lines))
-behind_it format answer end (suc m) place to (Some (results.BadFormat code)) is fits enough = (m, tt, rw (is, all_lines))
+behind_it format answer end (suc m) place to (Some (results.BadFormat code there)) is fits enough = (m, tt, rw (is, all_lines))
 behind_it format answer end (suc m) place to None is fits enough = (m, tt, rw (is, all_lines))
 
 -- where a printing is, what was printed of the whole, and what is left of it, with a count that is large enough

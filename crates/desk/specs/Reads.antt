@@ -3,8 +3,8 @@ use Rattle.std.specs.Prelude.{ℕ, ◌+◌, ◌*◌, ◌-◌, List, [], ◌∷�
 use Rattle.octets.specs.Choice.{pick}
 use Rattle.octets.specs.Bytes.{bytes2, part}
 use Rattle.answers.specs.declared.Summary.{Summary}
-use Rattle.answers.specs.declared.results.Told.{Told}
-use Rattle.answers.specs.declared.results.Told.TheVariants as results
+use Rattle.answers.specs.declared.results.Piece.{Piece}
+use Rattle.answers.specs.declared.results.Piece.TheVariants as results
 use Rattle.answers.specs.Told.{Reply, replied, bad_format, told_from}
 use Rattle.answers.specs.Answers.{read_answer}
 use Rattle.lines.specs.Digits.{ascii, decoded, hex_of, decimal}
@@ -28,17 +28,17 @@ all_lines [] = []
 all_lines (r ∷ rs) = reply_lines r ++ all_lines rs
 
 -- one result where the printing is: its lines, and how the printing goes on
-unfoldable pub shown_lines : Option Told → List ℕ → List ℕ
+unfoldable pub shown_lines : Option Piece → List ℕ → List ℕ
 shown_lines (Some (results.Result word from count)) answer = reply_lines (replied word (part answer from count))
-shown_lines (Some (results.BadFormat code)) answer = reply_lines (bad_format code)
+shown_lines (Some (results.BadFormat code place)) answer = reply_lines (bad_format code)
 shown_lines None answer = []
 
 abbrev pub shown : Option ℕ → ℕ → Shown
 shown next to = record { next = next; to = to }
 
-unfoldable pub shown_next : Option Told → ℕ → Shown
+unfoldable pub shown_next : Option Piece → ℕ → Shown
 shown_next (Some (results.Result word from count)) to = shown (Some (from + count + 2)) (to + 2 * count + 18)
-shown_next (Some (results.BadFormat code)) to = shown None (to + 8)
+shown_next (Some (results.BadFormat code there)) to = shown None (to + 8)
 shown_next None to = shown None to
 
 -- what is printed of a good answer

@@ -9,7 +9,7 @@ ghost use Rattle.desk.specs.Promised.{longest_answer, most_told, ShowAsks, Shown
 
 use crate::builds::put_bad_line;
 use answers::read_answer;
-use answers::results::{Told, result_at};
+use answers::results::{Piece, result_at};
 use lines::digits::decode;
 use lines::put::{put_bytes, put_number};
 use lines::values::{hex_at, number_at};
@@ -85,8 +85,8 @@ fn show_next(
     ensures { (out.new ≡ overwrite out.old to (spec.shown_lines (result_at format answer.now place end) answer.now)) × (result ≡ spec.shown_next (result_at format answer.now place end) to) }
 {
     match result_at(format, answer, place, end) {
-        Some(Told::Result(word, from, count)) => show_result(answer, word, from, count, out, to),
-        Some(Told::BadFormat(code)) => {
+        Some(Piece::Result(word, from, count)) => show_result(answer, word, from, count, out, to),
+        Some(Piece::BadFormat(code, _)) => {
             Shown {
                 next: None,
                 to: put_code(code, out, to),
