@@ -25,9 +25,9 @@ use Rattle.answers.specs.Words.{has_data}
 use Rattle.answers.specs.Results.{piece_at, compact_word, compact_data, data_fit, compact_told, compact_at, result_at}
 use Rattle.answers.specs.Answers.{data_read, word_read, compact_read, first_turn, answered_by, results_read}
 use Rattle.answers.specs.Answers.{count_read, count_sized, count_at, definite_sized, definite_read, indefinite_read, expanded_read, read_answer}
-use Rattle.answers.specs.Promised.{SizedFits, PieceFits, ToldFits, AnsweredFits}
+use Rattle.answers.specs.Promised.{SizedFits, ToldFits, AnsweredFits}
 use Rattle.answers.proofs.Places.{there, or_first, WordedFits, word_fits, sized-fits}
-use Rattle.answers.proofs.Places.{piece_fits, past_bad, ReadFits, turns_fit}
+use Rattle.answers.proofs.Places.{PieceFits, piece_fits, past_bad, ReadFits, turns_fit}
 
 -- ---- a result on its own
 

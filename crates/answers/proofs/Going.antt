@@ -12,8 +12,8 @@ use Rattle.octets.specs.Bytes.{AllBytes}
 use Rattle.std.specs.Prelude.{Option, Some, None, Result, Ok, Err}
 use Rattle.answers.specs.declared.turns.Turn.{Turn}
 use Rattle.answers.specs.Answers.{first_turn, turned, turns_from}
-use Rattle.answers.specs.Promised.{TurnFits, TurnedFits}
-use Rattle.answers.proofs.Places.{turned_fits}
+use Rattle.answers.specs.Promised.{TurnFits}
+use Rattle.answers.proofs.Places.{TurnedFits, turned_fits}
 
 -- where the reading is, and what is left of it, with a count that is large enough
 pub record Going (answer : List ℕ) (definite : Bool) (end : ℕ) (whole : Result Turn ℕ) (t : Turn) : Type 0 where

@@ -25,7 +25,7 @@ use Rattle.answers.specs.Words.{begins_word, is_word, word_at}
 use Rattle.answers.specs.Results.{form_bytes, length_stop, sized_by, sized_at}
 use Rattle.answers.specs.Results.{rapdu_ends, words_behind, rapdu_of, bad_format_of, is_tag, value_of, piece_at}
 use Rattle.answers.specs.Answers.{went_on, turned_by, definite_end, indefinite_end, turned, turns_from}
-use Rattle.answers.specs.Promised.{SizedFits, PieceFits, TurnFits, TurnedFits}
+use Rattle.answers.specs.Promised.{SizedFits, TurnFits}
 
 -- past the end of a run no byte stands, and one that is not 0 is one of the run
 pub no_byte : (bs : List ℕ) (at : ℕ) → length bs ≤ at → byte bs at ≡ 0
@@ -139,6 +139,18 @@ module _ (answer : List ℕ) (at : ℕ) (inside : at ≤ length answer) where
 
 -- ---- results
 
+-- an R-APDU that was read at a place: data and word lie further on in the answer
+pub record ResultFits (size at word from count : ℕ) : Type 0 where
+  pub further : at + 2 ≤ from
+  pub inside : from + count + 2 ≤ size
+  pub small : word < 65536
+  pub few : count < 65536
+
+unfoldable pub PieceFits : ℕ → ℕ → Result Piece ℕ → Type 0
+PieceFits size at (Ok (pieces.Result word from count)) = ResultFits size at word from count
+PieceFits size at (Ok (pieces.BadFormat code place)) = (at < place) × (place < size) × (code ≤ 3)
+PieceFits size at (Err place) = (at ≤ place) × (place ≤ size)
+
 -- no tag stands past the end
 pub past_bad : (answer : List ℕ) (at : ℕ) (definite : Bool) (end : ℕ) → length answer ≤ at → piece_at answer definite end at ≡ Err at
 unfolding piece_at
@@ -192,6 +204,12 @@ module _ (answer : List ℕ) (bytes : AllBytes answer) (at : ℕ) where
   piece_there definite end inside e = (e, rw e (piece_fits definite end inside))
 
 -- ---- turns
+
+-- after a turn: where it goes on, it is further on, and no bad byte stands before its place
+unfoldable pub TurnedFits : ℕ → Turn → Result (Option Turn) ℕ → Type 0
+TurnedFits size t (Ok (Some next)) = TurnFits size next × (t.at < next.at)
+TurnedFits size t (Ok None) = Unit
+TurnedFits size t (Err place) = (t.at ≤ place) × (place ≤ size)
 
 module _ (size : ℕ) (t : Turn) (fits : TurnFits size t) where
   went_on-fits : (place left : ℕ) → t.at < place → place ≤ size → TurnedFits size t (Ok (Some (went_on t place left)))

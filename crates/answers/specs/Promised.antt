@@ -10,18 +10,6 @@ unfoldable pub SizedFits : ℕ → ℕ → Result (ℕ × ℕ) ℕ → Type 0
 SizedFits size at (Ok (n, from)) = (at < from) × (from ≤ size) × (n < 65536)
 SizedFits size at (Err place) = (at ≤ place) × (place ≤ size)
 
--- an R-APDU that was read at a place: data and word lie further on in the answer
-pub record ResultFits (size at word from count : ℕ) : Type 0 where
-  pub further : at + 2 ≤ from
-  pub inside : from + count + 2 ≤ size
-  pub small : word < 65536
-  pub few : count < 65536
-
-unfoldable pub PieceFits : ℕ → ℕ → Result Piece ℕ → Type 0
-PieceFits size at (Ok (pieces.Result word from count)) = ResultFits size at word from count
-PieceFits size at (Ok (pieces.BadFormat code place)) = (at < place) × (place < size) × (code ≤ 3)
-PieceFits size at (Err place) = (at ≤ place) × (place ≤ size)
-
 -- a result on its own: its data lie further on in the answer, and its numbers find room in one number at the C boundary
 pub record ToldResult (size at word from count : ℕ) : Type 0 where
   pub further : at + 2 ≤ from
@@ -38,12 +26,6 @@ ToldFits size at None = Unit
 pub record TurnFits (size : ℕ) (t : Turn) : Type 0 where
   pub inside : t.at ≤ size
   pub seen : t.seen ≤ t.at
-
--- and after a turn: where it goes on, it is further on, and no bad byte stands before its place
-unfoldable pub TurnedFits : ℕ → Turn → Result (Option Turn) ℕ → Type 0
-TurnedFits size t (Ok (Some next)) = TurnFits size next × (t.at < next.at)
-TurnedFits size t (Ok None) = Unit
-TurnedFits size t (Err place) = (t.at ≤ place) × (place ≤ size)
 
 -- a good answer: its results lie in it, and its count is a signed number of two bytes, or no more than the answer's bytes
 pub record SummaryFits (size : ℕ) (s : Summary) : Type 0 where

@@ -1,5 +1,5 @@
-// The reader of answers: it reads an answer once, from front to back, and says the place of its first bad byte; and the results of an
-// answer one by one.
+// The reader of answers: it reads an answer once, from front to back, and says the place of its first bad byte, which is the Err of each
+// reading here; and the results of an answer one by one.
 #![tactic(auto)]
 
 pub mod results;
@@ -56,7 +56,8 @@ fn compact_read(answer: &[u8]) -> Result<Summary, usize>
     data_read(answer, word)
 }
 
-// Returns what the results from the place `first` on come to, in a template AB whose value ends at `end` or in AF.
+// Returns what the results from the place `first` on come to, in a template AB whose value ends at `end` or in AF. An Option of end and count
+// would be no plainer than `definite` beside them: most tests ask for one of the three, and each promise would turn it back.
 #[tactic(auto, using(octets::proofs::Picks::choices), unfolding(crate::specs::Answers::results_read, crate::specs::Answers::answered_by))]
 fn results_read(
     answer: &[u8],

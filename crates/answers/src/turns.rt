@@ -75,7 +75,7 @@ fn indefinite_end(answer: &[u8], t: Turn) -> Result<Option<Turn>, usize>
 
 // Returns the reading after one turn, in a template AB whose value ends at `end` or in AF: None where the results end well; or the place of
 // a bad byte.
-#[tactic(auto, using(octets::proofs::Picks::choices, crate::proofs::Places::piece_fits), unfolding(crate::specs::Answers::turned, crate::specs::Answers::turned_by, crate::specs::Promised::PieceFits))]
+#[tactic(auto, using(octets::proofs::Picks::choices, crate::proofs::Places::piece_fits), unfolding(crate::specs::Answers::turned, crate::specs::Answers::turned_by, crate::proofs::Places::PieceFits))]
 fn turned(answer: &[u8], definite: bool, end: usize, t: Turn) -> Result<Option<Turn>, usize>
     requires { TurnFits (length answer.now) t }
     ensures { result ≡ spec.turned answer.now definite end t }
