@@ -198,11 +198,6 @@ module _ (answer : List ℕ) (bytes : AllBytes answer) (at : ℕ) where
       (λ rapdu. rapdu-fits _ fits)
       (λ bad. bad_format-fits _ fits))
 
-  pub piece_there :
-      (definite : Bool) (end : ℕ) → at < length answer → {p : Result Piece ℕ} → p ≡ piece_at answer definite end at
-      → (p ≡ piece_at answer definite end at) × PieceFits (length answer) at p
-  piece_there definite end inside e = (e, rw e (piece_fits definite end inside))
-
 -- ---- turns
 
 -- after a turn: where it goes on, it is further on, and no bad byte stands before its place
@@ -264,11 +259,6 @@ module _ (answer : List ℕ) (bytes : AllBytes answer) (definite : Bool) (end : 
         (λ tag. on_pick (TurnedFits (length answer) t) (eqb t.left 0) _ _
         (λ none. (omega arith, here))
         (λ some. turned_by-fits (length answer) t fits definite _ (piece_fits answer bytes t.at definite end inside)))))
-
-    pub turned_told :
-        {r : Result (Option Turn) ℕ} → r ≡ turned answer definite end t
-        → (r ≡ turned answer definite end t) × TurnedFits (length answer) t r
-    turned_told e = (e, rw e turned_fits)
 
   -- the reading from a turn on: its places lie in the answer, and not before the turn's
   pub turns_fit : (n : ℕ) (t : Turn) → TurnFits (length answer) t → ReadFits (length answer) t (turns_from n answer definite end t)
