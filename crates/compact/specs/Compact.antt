@@ -1,5 +1,5 @@
 -- "Compact": reading a script command by command, running it, and the answer.
-use Rattle.std.specs.Prelude.{ℕ, zero, suc, ◌+◌, ◌≤◌, ◌<◌, true, false, not, ◌&&◌, List, ◌∷◌, ◌++◌, length, leb, ltb, eqb}
+use Rattle.std.specs.Prelude.{ℕ, zero, suc, ◌+◌, true, false, not, ◌&&◌, List, ◌∷◌, ◌++◌, length, leb, ltb, eqb}
 use Rattle.octets.specs.Choice.{pick}
 use Rattle.octets.specs.Bytes.{byte, bytes2, part}
 use Rattle.card.specs.Row.{Card}
@@ -9,7 +9,6 @@ use Rattle.command.specs.declared.Reading.{Reading}
 use Rattle.command.specs.declared.Step.{Step}
 use Rattle.command.specs.Instructions.{carries_data, case_of}
 use Rattle.command.specs.Outcomes.{word_of, data_of, goes_on}
-use Rattle.command.specs.Promised.{OfBytes}
 use Rattle.step.specs.Steps.{State, started, carried_out, stepped}
 use Rattle.decide.specs.Decisions.{planned, situation}
 

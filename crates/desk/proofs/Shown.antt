@@ -11,7 +11,6 @@ use native.Mathlib.Omega.{arith}
 use lib.Dec.{ltb, eqb}
 use lib.ListN.{length, length-append}
 use Rattle.std.specs.Prelude.{Option, Some, None, Result, Ok, Err}
-use Rattle.octets.specs.Choice.{pick}
 use Rattle.octets.specs.Bytes.{AllBytes, overwrite, part, bytes2}
 use Rattle.octets.proofs.Picks.{on_pick}
 use Rattle.octets.proofs.Writes.{part_length, write-length, write-none}

@@ -1,6 +1,6 @@
 -- What a call gives where a number is given and where none is, what the two calls without a script give, case by case, and what a number alone answers. Assumes nothing.
 use Prim.Native.Nat.{ℕ, ◌<◌}
-use mathlib.Core.Path.{◌≡◌, sym, ap, subst, ◌∙◌}
+use mathlib.Core.Path.{◌≡◌}
 use mathlib.Core.Bool.{true, false}
 use mathlib.Core.List.{List, []}
 use native.Mathlib.Omega.{arith}
@@ -10,7 +10,6 @@ use Rattle.card.specs.Row.{Card}
 use Rattle.journal.specs.Entries.{scripts_on_trial}
 use Rattle.journal.specs.Sound.{sound_card}
 use Rattle.journal.specs.Changes.{taken_back, confirmed}
-use Rattle.engine.specs.declared.Answer.{Answer}
 use Rattle.engine.specs.Numbers.{numbered, first_given, not_sound, take_back_refusals, confirm_refusals}
 use Rattle.engine.specs.Calls.{Result, gives, unless_refused, take_back, confirm}
 use Rattle.engine.specs.Promised.{AnswerFits}

@@ -1,6 +1,6 @@
 -- "One library runs a remote file management script against a lent card, takes the newest script back, or confirms all.": the three
 -- calls, as functions from card and arguments to answer, card and response memory.
-use Rattle.std.specs.Prelude.{ℕ, ◌<◌, Option, Bool, true, false, List, [], ◌++◌, length, eqb}
+use Rattle.std.specs.Prelude.{ℕ, Option, Bool, true, false, List, [], ◌++◌, length, eqb}
 use Rattle.octets.specs.Bytes.{overwrite}
 use Rattle.card.specs.Row.{Card}
 use Rattle.tlv.specs.declared.template.Template.{Template}

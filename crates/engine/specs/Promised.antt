@@ -1,5 +1,5 @@
 -- What the functions of a run ask and promise besides the paper's rules.
-use Rattle.std.specs.Prelude.{ℕ, Some, Result, Ok, Err, ◌+◌, ◌≤◌, ◌<◌, List, length}
+use Rattle.std.specs.Prelude.{ℕ, Some, Result, Ok, Err, ◌+◌, ◌≤◌, ◌<◌, length}
 use Rattle.card.specs.Row.{Card}
 use Rattle.journal.specs.Entries.{scripts_on_trial, entry_bytes}
 use Rattle.journal.specs.Promised.{HasRoom, Starts}

@@ -1,5 +1,5 @@
 -- "What the builder writes must be understood by the engine as exactly that list."
-use Rattle.std.specs.Prelude.{ℕ, ◌+◌, ◌*◌, Bool, true, false, not, ◌&&◌, List, [], ◌∷◌, ◌≡◌, length, take, eqb, Some}
+use Rattle.std.specs.Prelude.{ℕ, ◌+◌, ◌*◌, Bool, true, not, ◌&&◌, List, [], ◌∷◌, ◌≡◌, length, take, eqb, Some}
 use Rattle.octets.specs.Choice.{pick}
 use Rattle.card.specs.Row.{Card}
 use Rattle.tlv.specs.declared.template.Template.TheVariants.{Definite}

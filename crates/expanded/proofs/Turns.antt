@@ -2,7 +2,7 @@
 -- A command of bytes, read from a C-APDU, may run on the card and in the
 -- session that hold. Under the 1,000-byte rule its R-APDU has room behind those kept (`step-told`), and session and card hold after it
 -- (`limited_holds`). What is gathered then is the progress of the definition (`stands`), so the script is going (`moves`). Assumes nothing.
-use mathlib.Core.Path.{◌≡◌, refl, sym, ap, subst, ◌∙◌}
+use mathlib.Core.Path.{◌≡◌, sym, ap, subst, ◌∙◌}
 use mathlib.Core.Bool.{Bool, true, false}
 use mathlib.Core.List.{List}
 use Prim.Native.Nat.{ℕ, ◌+◌, ◌≤◌, ◌<◌}

@@ -1,9 +1,8 @@
 -- "C-APDU size 4 is case 1, 5 case 2, 5+Lc case 3, 6+Lc case 4 with Le 00; else 6700."
-use Rattle.std.specs.Prelude.{ℕ, ◌+◌, ◌-◌, ◌≤◌, false, ◌&&◌, List, length, leb, eqb}
+use Rattle.std.specs.Prelude.{ℕ, ◌+◌, ◌-◌, false, ◌&&◌, List, length, leb, eqb}
 use Rattle.octets.specs.Choice.{pick}
 use Rattle.octets.specs.Bytes.{byte}
 use Rattle.command.specs.declared.Reading.{Reading}
-use Rattle.command.specs.Promised.{OfBytes}
 
 -- the case of a C-APDU by its size, and 0 for no case's size
 unfoldable pub case_by_size : List ℕ → ℕ

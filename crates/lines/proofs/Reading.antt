@@ -13,11 +13,11 @@ use lib.Seq.{drop-cons, take_all}
 use lib.Dec.{eqb}
 use borrow.Author.Tests.{eq-eqb, eqb-true, ne_eqb}
 use Rattle.octets.specs.Bytes.{byte, part, starts_with}
-use Rattle.octets.proofs.Picks.{either, pick_true, pick-false}
+use Rattle.octets.proofs.Picks.{either}
 use Rattle.octets.proofs.Writes.{part_length}
-use Rattle.std.specs.Prelude.{Some, None, nat_eq, [], ◌∷◌}
+use Rattle.std.specs.Prelude.{nat_eq, [], ◌∷◌}
 use Rattle.std.specs.List as list
-use Rattle.lines.specs.Values.{up_to, value_end, value_at}
+use Rattle.lines.specs.Values.{up_to, value_end}
 
 -- where a value ends, byte by byte
 module _ (stop : ℕ) (bs : List ℕ) (at : ℕ) where

@@ -11,7 +11,6 @@ use Rattle.octets.proofs.copy.Reads as copy
 use Rattle.octets.proofs.fill.Reads as fill
 use Rattle.octets.proofs.put_head.Reads as put-head
 use Rattle.octets.proofs.all_zero.Reads as all-zero
-use Rattle.octets.proofs.starts_at.Reads as starts-at
 use Rattle.octets.proofs.within.Reads as within
 
 -- A contract allows one result: whatever the arguments, what a caller sees of two results that it allows is equal. `seen` takes it from
@@ -64,9 +63,6 @@ module _ (κs : Lfts 1) where
 module _ (κs : Lfts 2) where
   pub copy_determined : Determined (copy.Learnt κs) (λ args a e. e.0.now)
   copy_determined = by_equation (λ args a e h. h)
-
-  pub starts_at_determined : Determined (starts-at.Learnt κs) (λ args a e. a)
-  starts_at_determined = by_equation (λ args a e h. h)
 
   pub within_determined : Determined (within.Learnt κs) (λ args a e. a)
   within_determined = by_equation (λ args a e h. h)

@@ -1,8 +1,8 @@
 // Bytes: big-endian numbers, writes into lent memory, and comparisons in place.
 #![tactic(auto)]
 
-ghost use Rattle.std.specs.Prelude.{◌≡◌, [], ◌∷◌, ◌++◌, ◌+◌, ◌≤◌, ◌<◌, length, drop, replicate};
-ghost use Rattle.octets.specs.Bytes.{num_at, bytes2, overwrite, all_zero, same, starts_with, contains};
+ghost use Rattle.std.specs.Prelude.{◌≡◌, [], ◌∷◌, ◌++◌, ◌+◌, ◌≤◌, ◌<◌, length, replicate};
+ghost use Rattle.octets.specs.Bytes.{num_at, bytes2, overwrite, all_zero, same, contains};
 
 // Returns a byte as a number.
 pub fn wide(b: u8) -> usize
@@ -121,14 +121,6 @@ fn is_same(a: &[u8], b: &[u8]) -> bool
         return pieces_same(a, b, 64);
     }
     a == b
-}
-
-// Returns whether the bytes of `m` from the place `at` on begin with `d`.
-pub fn starts_at(m: &[u8], at: usize, d: &[u8]) -> bool
-    requires { at + length d.now ≤ length m.now }
-    ensures { result ≡ starts_with (drop at m.now) d.now }
-{
-    is_same(&m[at..at + d.len()], d)
 }
 
 // Returns whether `d` stands somewhere in `m`, in one piece; it is compared where it lies.

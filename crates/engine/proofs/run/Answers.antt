@@ -1,12 +1,12 @@
 -- `engine::run` meets its contract: it is what its start says, a number alone, or the script of its format.
 -- In each arm the start is known, and with it what it says of the run (`said`): the number that is given, or that none is and which format
 -- and template the script has. From that follows what the arm's function asks, and that its result is the run's. Assumes nothing.
-use mathlib.Core.Path.{◌≡◌, refl, sym, ap, subst, ◌∙◌}
+use mathlib.Core.Path.{◌≡◌, refl, ap, subst, ◌∙◌}
 use mathlib.Core.List.{List}
 use Prim.Native.Nat.{ℕ}
 use native.Mathlib.Omega.{arith}
 use lib.ListN.{length}
-use Rattle.std.specs.Prelude.{Result, Ok, Err}
+use Rattle.std.specs.Prelude.{Result, Ok}
 use Rattle.std.proofs.lemmas.Result.{err_from_is_err_and}
 use Rattle.tlv.specs.Promised.{TemplateFits}
 use Rattle.card.specs.Lent.{held}

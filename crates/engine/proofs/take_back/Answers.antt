@@ -2,7 +2,7 @@
 -- The two tests are those of the numbers 1 and 7, in their order. Past the first the card is sound (`sound`), and the head that is
 -- read says how many scripts are on trial (`scripts`); past the second there is one. These two facts are what the take-back of the
 -- journal asks. The three ends are the three cases of the definition: `back_unsound`, `back_none`, `back_done`. Assumes nothing.
-use mathlib.Core.Path.{◌≡◌, sym, ap, ◌∙◌}
+use mathlib.Core.Path.{sym, ap, ◌∙◌}
 use mathlib.Core.List.{[]}
 use native.Mathlib.Omega.{arith}
 use Rattle.octets.proofs.Picks.{told}

@@ -1,5 +1,5 @@
 -- `rfm::rfm_take_back` meets its contract: the three memories are those of the card that was lent on, since they stay the same memories. Assumes nothing.
-use mathlib.Core.Path.{sym, ap, ◌∙◌}
+use mathlib.Core.Path.{sym, ◌∙◌}
 use mathlib.Core.List.{[]}
 use Rattle.card.specs.Row.{lent}
 use Rattle.engine.specs.Numbers.{answer_of}

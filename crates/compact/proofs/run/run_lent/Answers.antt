@@ -1,6 +1,6 @@
 -- `compact::run::run_lent` meets its contract. The law `moves` makes the next turn of what `step` says, whether the command goes on or
 -- stops the script: then the next place is the script's end, and the loop has one way out, the law `ends`. Assumes nothing.
-use Rattle.std.proofs.Common.{◌≡◌, ◌<◌, ℕ, ◌+◌, ◌-◌, List, false, length, refl, sym, subst, ◌∙◌, arith}
+use Rattle.std.proofs.Common.{◌≡◌, ◌<◌, ℕ, ◌+◌, ◌-◌, List, false, length, sym, subst, ◌∙◌, arith}
 use Rattle.octets.specs.Bytes.{part}
 use Rattle.octets.specs.Choice.{pick as choose}
 use Rattle.octets.proofs.Writes.{part-lent}

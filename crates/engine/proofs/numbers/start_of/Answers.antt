@@ -4,10 +4,8 @@
 -- nothing.
 use mathlib.Core.Path.{◌≡◌, sym, ap, ◌∙◌}
 use mathlib.Core.Bool.{Bool, true, ◌&&◌, ◌||◌}
-use Prim.Native.Nat.{ℕ, ◌≤◌}
 use native.Mathlib.Omega.{arith}
 use lib.Dec.{ltb, eqb}
-use lib.ListN.{length}
 use Rattle.octets.proofs.Picks.{told}
 use Rattle.card.specs.Lent.{held}
 use Rattle.card.specs.Row.{Card, entries, row_of}

@@ -1,16 +1,10 @@
 -- `expanded::run::run` meets its contract: the C-APDUs bring the script to a place from where what is left is the whole run. There stands
 -- no C-APDU: a Bad format TLV ends the script (`breaks`), or nothing is left (`ends`). Assumes nothing.
-use mathlib.Core.Path.{◌≡◌, refl, sym, ap, ◌∙◌}
-use mathlib.Core.Bool.{false, false≢true}
-use mathlib.Core.List.{[], ◌∷◌}
-use mathlib.Core.Logic.{inl, inr}
+use mathlib.Core.Path.{◌≡◌, refl, sym, ◌∙◌}
 use Prim.Native.Nat.{ℕ}
 use native.Mathlib.Omega.{arith}
-use types.Run.{OneOf}
-use denote.Enum.Declared.{tag_of}
 use Rattle.tlv.specs.declared.template.Item.{Item}
 use Rattle.tlv.specs.declared.template.Item.TheVariants.{Capdu, Bad, End}
-use Rattle.tlv.specs.contracts.template.Item as I
 use Rattle.expanded.proofs.Going.{bad_lies, ends, breaks}
 use Rattle.expanded.proofs.run.run.Goals as goal
 

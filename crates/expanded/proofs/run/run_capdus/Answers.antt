@@ -1,7 +1,7 @@
 -- `expanded::run::run_capdus` meets its contract. The law `goes_on_lem` of `Turns` makes the next turn of what `step` and `gather` say,
 -- whether the command goes on or stops the script: then the place is the value's end, and the loop has one way out, the law `reaches`.
 -- Assumes nothing.
-use Rattle.std.proofs.Common.{◌≡◌, ◌≤◌, ◌<◌, ℕ, ◌+◌, ◌-◌, List, length, refl, sym, subst, ◌∙◌, arith}
+use Rattle.std.proofs.Common.{◌≡◌, ◌≤◌, ℕ, ◌+◌, List, length, refl, sym, subst, ◌∙◌, arith}
 use Rattle.octets.specs.Bytes.{part}
 use Rattle.octets.proofs.Writes.{part_length}
 use Rattle.card.specs.Lent.{held}
@@ -9,11 +9,9 @@ use Rattle.card.proofs.Stays.{stays, stays_on}
 use Rattle.step.specs.Steps.{started}
 use Rattle.step.proofs.Keeps.{starts-small}
 use Rattle.step.proofs.Moved.{step_of, fewer}
-use Rattle.tlv.specs.declared.template.Item.TheVariants.{Capdu}
-use Rattle.tlv.specs.Templates.{least_capdu, item_at}
 use Rattle.expanded.specs.declared.run.Rapdus.{Rapdus}
 use Rattle.expanded.specs.Expanded.{gathered_of}
-use Rattle.expanded.proofs.Going.{Going, begins, reaches, capdu_lies}
+use Rattle.expanded.proofs.Going.{Going, begins, capdu_lies}
 use Rattle.expanded.proofs.Turns.{asks, gather_asks, goes_on_lem, further}
 use Rattle.expanded.proofs.run.run_capdus.Goals as goal
 
