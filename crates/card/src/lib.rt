@@ -22,7 +22,8 @@ ghost use Rattle.card.specs.Promised.{RowFits};
 // The number of bytes of an entry.
 pub const ENTRY_SIZE: usize = 16;
 
-// "kind: 1 MF, 2 DF, 3 ADF, 4 transparent, 5 linear fixed, 6 cyclic"
+// "kind: 1 MF, 2 DF, 3 ADF, 4 transparent, 5 linear fixed, 6 cyclic". Kinds and states are numbers and no enums: an entry holds any byte
+// there until its table is found sound, and the rules are over that byte.
 pub const MF: usize = 1;
 
 pub const DF: usize = 2;
@@ -45,7 +46,8 @@ pub const ACTIVATED: usize = 5;
 
 pub const DEACTIVATED: usize = 4;
 
-// An entry of the table, read from its 16 bytes.
+// An entry of the table, read from its 16 bytes. That they fit (`RowFits`) stands in contracts and not in the type: the definitions make a
+// row of any numbers, and each of them would have to ask for bytes.
 #[derive(Clone, Copy)]
 pub struct Row {
     pub identifier: usize,

@@ -1,4 +1,5 @@
-// The instructions by their byte, and what the paper asks of each.
+// The instructions by their byte, and what the paper asks of each. They are numbers and no enum: a command has any byte there, of which the
+// second check asks whether there is such an instruction.
 ghost use Rattle.std.specs.Prelude.{◌≡◌, ◌≤◌};
 ghost use Rattle.command.specs.Instructions as spec;
 

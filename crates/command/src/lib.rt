@@ -17,7 +17,8 @@ pub enum Format {
 }
 
 // A command as both formats read it: whether its form is whole, its header (p3 is Le, or what stands in its place in a compact
-// command), the case that it has, and whether it is a compact command with bytes after it. Its data are lent beside it.
+// command), the case that it has, 0 for none, and whether it is a compact command with bytes after it. Its data are lent beside it. What is
+// wrong with a command is for the checks, in their order, and the first of them asks `whole`: so it is no Option, and each byte a number.
 #[derive(Clone, Copy)]
 pub struct Command {
     pub whole: bool,

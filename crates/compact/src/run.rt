@@ -33,6 +33,7 @@ fn run_lent(
     let mut session = session::start(application);
     let mut ended = not_begun();
     let mut at: usize = 0;
+    // No `for`: each command says how many bytes it takes, and the last where the script stops.
     while at < script.len() {
         let reading = next_reading(script, at);
         let data = data_of(script, reading);

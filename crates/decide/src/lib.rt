@@ -102,7 +102,8 @@ fn with_room(d: Decision, s: Standing, lc: usize, used: usize, room: usize) -> D
     d
 }
 
-// Returns what is decided of a command in a session on a card, with its data; what it makes is put at the start of `made`.
+// Returns what is decided of a command in a session on a card, with its data; what it makes is put at the start of `made`. The card is lent to
+// be read alone, so there is no `LentCard`.
 pub fn decide(
     format: Format,
     domain: usize,

@@ -19,7 +19,8 @@ use tlv::template::Template;
 // The bytes that a script has at most.
 pub const LONGEST_SCRIPT: usize = 1024;
 
-// What a run is called with beside its script: the entry number of an application, the access domain, and the format number.
+// What a run is called with beside its script: the entry number of an application, the access domain, and the format number. The last two
+// are any bytes, as a caller in C passes them.
 #[derive(Clone, Copy, Debug, PartialEq, Eq)]
 pub struct Call {
     pub application: usize,
@@ -134,7 +135,7 @@ pub fn take_back(card: &mut LentCard<'_>) -> Result<Done, Refused>
     })
 }
 
-// Confirms all scripts where no number refuses it.
+// Confirms all scripts where no number refuses it. Table and file memory are lent to be read alone, so there is no `LentCard`.
 pub fn confirm(table: &[u8], files: &[u8], journal: &mut [u8]) -> Result<Done, Refused>
     ensures { (spec.gives (answer_of result) (lent table.now files.now journal.new) [] ≡ spec.confirm (lent table.now files.now journal.old)) × AnswerFits (answer_of result) }
 {

@@ -16,7 +16,7 @@ fn fifth(capdu: &[u8]) -> usize
     0
 }
 
-// Returns the case of a C-APDU by its size, and 0 for no case's size.
+// Returns the case of a C-APDU by its size, and 0 for no case's size: that number is what the command has for it.
 fn case_by_size(capdu: &[u8]) -> usize
     requires { 4 ≤ length capdu.now }
     ensures { (result ≡ spec.case_by_size capdu.now) × (3 ≤ result → 5 + byte capdu.now 4 ≤ length capdu.now) }

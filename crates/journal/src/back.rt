@@ -35,6 +35,7 @@ fn restore_to_mark(table: &mut [u8], files: &mut [u8], journal: &[u8], used: usi
         × (result ≡ bytes_taken (behind_mark (entries_back used journal.now used))) × (result + 8 ≤ used) }
 {
     let mut u: usize = used;
+    // No `for`: each entry's own tail says how far the place goes back.
     loop {
         let tail = tail_at(journal, u);
         if tail.kind == MARKS_START {
@@ -51,6 +52,7 @@ pub fn take_back(card: &mut LentCard<'_>)
     ensures taken_back { held card.new ≡ taken_back (held card.old) }
     ensures stays { StaysLent card.old card.new }
 {
+    // Taken apart, since the journal is only read while the others are written.
     let table = &mut *card.table;
     let files = &mut *card.files;
     let journal = &mut *card.journal;

@@ -34,7 +34,8 @@ pub const TAIL_SIZE: usize = 8;
 // "scripts on trial (0 to 16)"
 pub const MOST_SCRIPTS: usize = 16;
 
-// "Kind 1 marks a script's start ..; kind 2 holds file memory bytes ..; kind 3 one table byte"
+// "Kind 1 marks a script's start ..; kind 2 holds file memory bytes ..; kind 3 one table byte". Numbers and no enum: a tail holds any byte
+// there until its journal is found sound.
 pub const MARKS_START: usize = 1;
 
 pub const HOLDS_FILE_BYTES: usize = 2;

@@ -94,6 +94,7 @@ fn entries_sound(table: &[u8], files: usize, journal: &[u8], used: usize, script
     let mut u: usize = used;
     let mut marks: usize = 0;
     let mut oldest = true;
+    // No `for`: each entry's own tail says how far the place goes back.
     while 0 < u {
         if !is_readable(journal, u) {
             return false;

@@ -14,16 +14,9 @@ use crate::{
 fn tail_bytes(kind: u8, place: usize, n: usize) -> [u8; 8]
     ensures { result ≡ tail kind place n }
 {
-    [
-        kind,
-        0,
-        (place / 256 % 256) as u8,
-        (place % 256) as u8,
-        (n / 256 % 256) as u8,
-        (n % 256) as u8,
-        0,
-        0,
-    ]
+    let [place_high, place_low] = octets::bytes2(place);
+    let [high, low] = octets::bytes2(n);
+    [kind, 0, place_high, place_low, high, low, 0, 0]
 }
 
 // Closes the entry whose n old bytes stand after those that the head counts: writes its tail, then the head, and returns the new

@@ -10,7 +10,8 @@ ghost use Rattle.session.specs.Session as spec;
 use card::Row;
 
 // Where a script stands: entry numbers of its root, its directory and its file (0: none), the record number (0: none), how many of
-// the waiting bytes wait, and the word that is kept for them. These are the numbers of a session, passed on by value.
+// the waiting bytes wait, and the word that is kept for them. These are the numbers of a session, passed on by value, and 0 for none is the
+// session's own number: GET RESPONSE and the record modes count from it.
 #[derive(Clone, Copy)]
 pub struct Standing {
     pub root: u8,

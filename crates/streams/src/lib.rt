@@ -5,7 +5,8 @@ ghost use Rattle.std.specs.Prelude.{◌≤◌, IfOk, length};
 
 use std::io::{Read, Result};
 
-// Reads until `buf` is full or the input ends. Returns how many bytes it put at the start of `buf`.
+// Reads until `buf` is full or the input ends. Returns how many bytes it put at the start of `buf`. A loop over `read`: `read_to_end` asks for
+// a Vec, and `read_exact` fails where the input ends.
 pub fn read_full<R: Read>(input: &mut R, buf: &mut [u8]) -> Result<usize>
     ensures { IfOk result (λ n. n ≤ length buf.new) }
 {

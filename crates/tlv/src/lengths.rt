@@ -11,7 +11,8 @@ pub const WRONG_LENGTH: usize = 2;
 
 pub const LENGTH_MISSING: usize = 3;
 
-// What reading a length comes to: a length and the place after it, or the code of a Bad format TLV.
+// What reading a length comes to: a length and the place after it, or the code of a Bad format TLV. An enum of its own and no Result, as
+// the paper has it: "Each reading of a length ends in a length, in 02 or in 03"; the codes stay numbers, since that byte is what is written.
 #[derive(Clone, Copy)]
 pub enum Length {
     Found(usize, usize),
@@ -33,7 +34,8 @@ fn short_length(bytes: &[u8], at: usize, end: usize) -> Length
     Length::Found(n, at + 1)
 }
 
-// Returns the length in the form 82 whose two bytes stand at the place `at`, in bytes that end at `end`.
+// Returns the length in the form 82 whose two bytes stand at the place `at`, in bytes that end at `end`. Not one function with the form 81:
+// they differ in how the number is read, in the least that it may be and in what it takes.
 fn long_length(bytes: &[u8], at: usize, end: usize) -> Length
     requires { (at ≤ end) × (end ≤ length bytes.now) }
     ensures { result ≡ spec.long_length bytes.now at end }
@@ -105,6 +107,7 @@ pub fn put_length(out: &mut [u8], at: usize, n: usize) -> usize
         octets::copy(out, at, &[0x81, n as u8]);
         return at + 2;
     }
-    octets::copy(out, at, &[0x82, (n / 256 % 256) as u8, (n % 256) as u8]);
+    let [high, low] = octets::bytes2(n);
+    octets::copy(out, at, &[0x82, high, low]);
     at + 3
 }

@@ -15,4 +15,4 @@ returns-then-n-lt256 c =
 pub returns : goal.returns
 unfolding bytes2
 returns c =
-    named c.args.out.now c.args.at 3 (length_three c.args.n c.if-n-lt128.false c.if-n-lt256.false) refl c.copy-2.ensures
+    named c.args.out.now c.args.at 3 (length_three c.args.n c.if-n-lt128.false c.if-n-lt256.false) refl (rw c.bytes2.ensures at c.copy-2.ensures)
