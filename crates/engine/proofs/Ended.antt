@@ -103,13 +103,13 @@ expanded-small definite count rapdus few most n e = let a = answer-few definite 
 -- and the result
 pub value-gives : (definite : Bool) (at end : ℕ) (a : Arguments) (card : Card) (g : Gathered) (after : Card) (out response : List ℕ) (n : ℕ)
     → expanded.progress_of g after out ≡ expanded.run_from (length a.script) a.script a.domain definite at end (expanded.begun a.application card)
-    → response ≡ overwrite a.response 0 (expanded.answer_bytes definite g.step.count (take (g.kept + g.last) out))
-    → n ≡ length (expanded.answer_bytes definite g.step.count (take (g.kept + g.last) out))
+    → response ≡ overwrite a.response 0 (expanded.answer_bytes definite g.step.count (take (g.rapdus.kept + g.rapdus.last) out))
+    → n ≡ length (expanded.answer_bytes definite g.step.count (take (g.rapdus.kept + g.rapdus.last) out))
     → gives (record { number = 0; length = n; count = g.step.count }) after response ≡ run_value definite at end a card
 unfolding run_value accepted expanded.progress_of
 value-gives definite at end a card g after out response n e r l =
     (λ i. gives (record { number = 0; length = l i; count = g.step.count }) after (r i))
-    ∙ (λ i. accepted (state_of g.step after) (expanded.answer_bytes definite g.step.count (take-add g.kept g.last out i)) a.response)
+    ∙ (λ i. accepted (state_of g.step after) (expanded.answer_bytes definite g.step.count (take-add g.rapdus.kept g.rapdus.last out i)) a.response)
     ∙ ap (λ (p : Progress). accepted p.state (expanded.answer_bytes definite p.state.step.count (p.kept ++ p.last)) a.response) e
 
 -- the value of a template of either form

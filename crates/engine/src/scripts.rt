@@ -58,7 +58,7 @@ pub fn run_value(
     );
     let step = g.step;
     let count = step.count;
-    let gathered = g.kept + g.last;
+    let gathered = g.rapdus.kept + g.rapdus.last;
     let length = put_answer(response, definite, count, &rapdus[..gathered]);
     Done { length, count }
 }

@@ -24,18 +24,18 @@ module _ (κs : Lfts 2) where
 
 -- what is seen of a script: its progress, and how many bytes of it are kept and how many are the last
 abbrev seen : Gathered → Card → List ℕ → Pair Progress (Pair ℕ ℕ)
-seen g card out = pair (progress_of g card out) (pair g.kept g.last)
+seen g card out = pair (progress_of g card out) (pair g.rapdus.kept g.rapdus.last)
 
 abbrev counted : Progress → Pair Progress (Pair ℕ ℕ)
 counted p = pair p (pair (length p.kept) (length p.last))
 
 -- the numbers are those of the progress, in a buffer that has them all
-by-progress : (g : Gathered) (card : Card) (out : List ℕ) {p : Progress} → progress_of g card out ≡ p → g.kept + g.last ≤ length out → seen g card out ≡ counted p
+by-progress : (g : Gathered) (card : Card) (out : List ℕ) {p : Progress} → progress_of g card out ≡ p → g.rapdus.kept + g.rapdus.last ≤ length out → seen g card out ≡ counted p
 unfolding progress_of
 by-progress g card out same fits =
     both same
-    (both (sym (length-take-le g.kept out (omega arith)) ∙ ap (λ p. length p.kept) same)
-    (sym (part_length out g.kept g.last fits) ∙ ap (λ p. length p.last) same))
+    (both (sym (length-take-le g.rapdus.kept out (omega arith)) ∙ ap (λ p. length p.kept) same)
+    (sym (part_length out g.rapdus.kept g.rapdus.last fits) ∙ ap (λ p. length p.last) same))
 
 module _ (κs : Lfts 4) where
   pub run_determined :

@@ -51,8 +51,8 @@ counts_one definite domain capdu p = on_pick (λ (q : Progress). q.state.step.co
 pub record Going (script : List ℕ) (definite : Bool) (from end application domain : ℕ) (card₀ card : Card) (out : List ℕ) (g : Gathered) (at : ℕ) : Type 0 where
   pub inside : at ≤ end
   pub counted : g.step.count ≤ at
-  pub kept : at < end → g.kept ≤ most_kept
-  pub room : g.kept + g.last ≤ room_to_gather
+  pub kept : at < end → g.rapdus.kept ≤ most_kept
+  pub room : g.rapdus.kept + g.rapdus.last ≤ room_to_gather
   pub holds : Holds (taken_back card₀) g.step.session card
   pub fuel : ℕ
   pub enough : end ≤ at + fuel
@@ -89,12 +89,12 @@ module _ (script : List ℕ) (definite : Bool) (end domain at : ℕ) (p : Progre
 abbrev pub Done : List ℕ → Bool → ℕ → ℕ → ℕ → ℕ → Card → Card → List ℕ → Gathered → Type 0
 Done script definite from end application domain card₀ card out r =
     (progress_of r card out ≡ run_from (length script) script domain definite from end (begun application card₀))
-    × (r.kept + r.last ≤ room_to_gather)
+    × (r.rapdus.kept + r.rapdus.last ≤ room_to_gather)
     × (r.step.count ≤ end)
 
 module _ {script : List ℕ} {definite : Bool} {from end application domain : ℕ} {card₀ : Card} where
   pub begins : from ≤ end → end ≤ length script → Starts card₀ application → {out : List ℕ} {step : Step} → step ≡ (started application card₀).step
-      → Going script definite from end application domain card₀ card₀ out (record { step = step; kept = 0; last = 0 }) from
+      → Going script definite from end application domain card₀ card₀ out (record { step = step; rapdus = record { kept = 0; last = 0 } }) from
   unfolding started begun progress_of
   begins inside short starts is =
       record {
@@ -125,8 +125,8 @@ module _ {script : List ℕ} {definite : Bool} {from end application domain : �
 
     -- the C-APDU at its place was run
     module _ (next : Gathered) {card' : Card} (out' : List ℕ) {start size : ℕ} (known : item_at script at end ≡ Capdu start size) (further : at < start) (inside : start + size ≤ end)
-        (did : progress_of next card' out' ≡ step_capdu definite domain (part script start size) (progress_of g card out)) (room : next.kept + next.last ≤ room_to_gather)
-        (few : goes_on (word_of next.step.outcome) ≡ true → next.kept ≤ most_kept) (holds : Holds (taken_back card₀) next.step.session card') where
+        (did : progress_of next card' out' ≡ step_capdu definite domain (part script start size) (progress_of g card out)) (room : next.rapdus.kept + next.rapdus.last ≤ room_to_gather)
+        (few : goes_on (word_of next.step.outcome) ≡ true → next.rapdus.kept ≤ most_kept) (holds : Holds (taken_back card₀) next.step.session card') where
       one_more : next.step.count ≡ g.step.count + 1
       unfolding progress_of
       one_more = ap (λ (p : Progress). p.state.step.count) did ∙ counts_one definite domain (part script start size) (progress_of g card out)
@@ -176,7 +176,7 @@ module _ {script : List ℕ} {definite : Bool} {from end application domain : �
         let i = reached.inside in
         (sym (end-left script definite end domain r.at (progress_of r.gathered card out) reached.rounds (sym is ∙ known)) ∙ reached.whole, reached.room, omega arith)
 
-    pub breaks : ItemFits r.at end item → (next : Gathered) (card' : Card) (out' : List ℕ) → next.kept + next.last ≤ room_to_gather
+    pub breaks : ItemFits r.at end item → (next : Gathered) (card' : Card) (out' : List ℕ) → next.rapdus.kept + next.rapdus.last ≤ room_to_gather
         → {code : ℕ} → item ≡ Bad code → progress_of next card' out' ≡ step_bad code (progress_of r.gathered card out) → Done script definite from end application domain card₀ card' out' next
     unfolding step_bad progress_of
     breaks fits next card' out' room {code} known e =

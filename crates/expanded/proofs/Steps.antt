@@ -32,7 +32,7 @@ module _ (out : List ℕ) (kept : ℕ) (new : List ℕ) (fits : kept + length ne
 
 -- the bytes that are gathered find their room, and a script that goes on has kept no more than the rule lets it
 abbrev pub Within : Gathered → Type 0
-Within g = (g.kept + g.last ≤ room_to_gather) × (goes_on (word_of g.step.outcome) ≡ true → g.kept ≤ most_kept)
+Within g = (g.rapdus.kept + g.rapdus.last ≤ room_to_gather) × (goes_on (word_of g.step.outcome) ≡ true → g.rapdus.kept ≤ most_kept)
 
 pub gathered_within : (counts : Bool) (step : Step) (kept n : ℕ) → kept + n ≤ room_to_gather → kept ≤ most_kept → (counts ≡ true → goes_on (word_of step.outcome) ≡ true → kept + n ≤ most_kept)
     → {r : Rapdus} → r ≡ gathered_in counts kept n → Within (gathered_of step r)
@@ -40,7 +40,7 @@ unfolding gathered_in
 gathered_within counts step kept n room few rule e =
     subst (λ (r : Rapdus). Within (gathered_of step r)) (sym e) (on_pick (λ (r : Rapdus). Within (gathered_of step r)) counts _ _ (λ y. (omega arith, rule y)) (λ no. (room, λ going. few)))
 
-module _ (before : Gathered) (card : Card) (out : List ℕ) (room : before.kept ≤ length out) where
+module _ (before : Gathered) (card : Card) (out : List ℕ) (room : before.rapdus.kept ≤ length out) where
   -- the state after a command of a C-APDU, by how many bytes are kept, whether its R-APDU is, and its data
   abbrev after : ℕ → Reading → ℕ → Bool → List ℕ → State
   after domain r kept counts «data» =
@@ -49,29 +49,29 @@ module _ (before : Gathered) (card : Card) (out : List ℕ) (room : before.kept 
 
   -- a C-APDU that was run
   module _ (definite : Bool) (domain : ℕ) (capdu : List ℕ) (r : Reading) (is : r ≡ capdu_command capdu) (counts : Bool) (hc : counts ≡ keeps definite r.command.case) («data» : List ℕ) (hd : «data» ≡ part capdu r.from r.size)
-      (next : Step) (card' : Card) (e : state_of next card' ≡ after domain r before.kept counts «data») where
+      (next : Step) (card' : Card) (e : state_of next card' ≡ after domain r before.rapdus.kept counts «data») where
     abbrev new : List ℕ
     new = last_rapdu next card'.files
 
-    ran : answered counts (state_of next card') (take before.kept out) new ≡ step_capdu definite domain capdu (progress_of before card out)
+    ran : answered counts (state_of next card') (take before.rapdus.kept out) new ≡ step_capdu definite domain capdu (progress_of before card out)
     unfolding step_capdu progress_of
     ran =
-        (λ i. answered counts (e i) (take before.kept out) (last_rapdu (e i).step (e i).card.files))
-        ∙ (λ i. of r (sym (length-take-le before.kept out room) i) (hc i) (hd i))
-        ∙ (λ i. of (is i) (length (take before.kept out)) (keeps definite (is i).command.case) (part capdu (is i).from (is i).size))
+        (λ i. answered counts (e i) (take before.rapdus.kept out) (last_rapdu (e i).step (e i).card.files))
+        ∙ (λ i. of r (sym (length-take-le before.rapdus.kept out room) i) (hc i) (hd i))
+        ∙ (λ i. of (is i) (length (take before.rapdus.kept out)) (keeps definite (is i).command.case) (part capdu (is i).from (is i).size))
       where
         of : Reading → ℕ → Bool → List ℕ → Progress
         of r kept counts «data» =
             let st : State = after domain r kept counts «data» in
-            answered counts st (take before.kept out) (last_rapdu st.step st.card.files)
+            answered counts st (take before.rapdus.kept out) (last_rapdu st.step st.card.files)
 
     -- and its R-APDU, written behind those kept
-    pub stands : (n : ℕ) → n ≡ length new → before.kept + n ≤ length out → {now : List ℕ} → now ≡ overwrite out before.kept new → {g : Rapdus} → g ≡ gathered_in counts before.kept n → progress_of (gathered_of next g) card' now ≡ step_capdu definite domain capdu (progress_of before card out)
+    pub stands : (n : ℕ) → n ≡ length new → before.rapdus.kept + n ≤ length out → {now : List ℕ} → now ≡ overwrite out before.rapdus.kept new → {g : Rapdus} → g ≡ gathered_in counts before.rapdus.kept n → progress_of (gathered_of next g) card' now ≡ step_capdu definite domain capdu (progress_of before card out)
     stands n size fits {now} written h =
-        ap (λ (k : Rapdus). progress_of (gathered_of next k) card' now) h ∙ in_buffer out before.kept new (omega arith) next card' written size counts ∙ ran
+        ap (λ (k : Rapdus). progress_of (gathered_of next k) card' now) h ∙ in_buffer out before.rapdus.kept new (omega arith) next card' written size counts ∙ ran
 
   -- a Bad format TLV
-  pub bad_last : (code : ℕ) → before.kept + 3 ≤ length out → {now : List ℕ} → now ≡ overwrite out before.kept (bad_format code) → {n : ℕ} → n ≡ 3
-      → progress_of (record { step = record { session = before.step.session; outcome = before.step.outcome; count = before.step.count + 1 }; kept = before.kept; last = n }) card now ≡ step_bad code (progress_of before card out)
+  pub bad_last : (code : ℕ) → before.rapdus.kept + 3 ≤ length out → {now : List ℕ} → now ≡ overwrite out before.rapdus.kept (bad_format code) → {n : ℕ} → n ≡ 3
+      → progress_of (record { step = record { session = before.step.session; outcome = before.step.outcome; count = before.step.count + 1 }; rapdus = record { kept = before.rapdus.kept; last = n } }) card now ≡ step_bad code (progress_of before card out)
   unfolding step_bad bad_format progress_of gathered_in answered pick
-  bad_last code fits written size = in_buffer out before.kept (bad_format code) fits _ card written size false
+  bad_last code fits written size = in_buffer out before.rapdus.kept (bad_format code) fits _ card written size false

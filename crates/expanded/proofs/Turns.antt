@@ -43,12 +43,12 @@ module _ {script : List ℕ} {definite : Bool} {from end application domain : �
   few_data : length «data» < 256
   few_data = rw (has, length-take) (omega (arith, fits.bytes.brief))
 
-  few-kept : g.kept ≤ most_kept
+  few-kept : g.rapdus.kept ≤ most_kept
   few-kept = going.kept (omega (arith, lies.0, lies.1))
 
   -- what `step` asks
   pub asks : end ≤ length script → length script ≤ longest_script → {made : List ℕ} → length made ≡ most_waiting
-      → RunCommandAsks card g.step.session.standing reading.command (length «data») g.kept made × (g.step.count < 65535)
+      → RunCommandAsks card g.step.session.standing reading.command (length «data») g.rapdus.kept made × (g.step.count < 65535)
   asks inside short long =
       let b = fits.bytes in (
         record {
@@ -61,32 +61,32 @@ module _ {script : List ℕ} {definite : Bool} {from end application domain : �
 
   -- after `step`
   module _ (room : length out ≡ room_to_gather) {counts : Bool} (keep : counts ≡ keeps definite reading.command.case) {s : Session} {ended : Ended} {card' : Card}
-      (did : moved_to s ended.outcome card' ≡ commanded Expanded domain reading.command «data» g.step.session g.kept counts card) (one : ended.count ≡ g.step.count + 1) where
+      (did : moved_to s ended.outcome card' ≡ commanded Expanded domain reading.command «data» g.step.session g.rapdus.kept counts card) (one : ended.count ≡ g.step.count + 1) where
     abbrev o : Outcome
     o = ended.outcome
 
-    told : OutcomeFits (length card'.files) o × (g.kept + rapdu_size (data_count o) ≤ room_to_gather) × (counts ≡ true → goes_on (word_of o) ≡ true → g.kept + rapdu_size (data_count o) ≤ most_kept)
+    told : OutcomeFits (length card'.files) o × (g.rapdus.kept + rapdu_size (data_count o) ≤ room_to_gather) × (counts ≡ true → goes_on (word_of o) ≡ true → g.rapdus.kept + rapdu_size (data_count o) ≤ most_kept)
     told =
-        step-told g.kept counts g.step.session.standing few-kept card going.holds.sound going.holds.good domain reading.command «data» (omega (arith, few_data)) fits.bytes.p3
+        step-told g.rapdus.kept counts g.step.session.standing few-kept card going.holds.sound going.holds.good domain reading.command «data» (omega (arith, few_data)) fits.bytes.p3
         g.step.session.waiting did definite keep
 
     holds : Holds (taken_back card₀) s card'
     holds =
         subst (λ (m : Moved). Holds (taken_back card₀) m.session m.card) (sym did)
-        (limited_holds (taken_back card₀) g.step.session card going.holds domain reading.command «data» (omega (arith, few_data)) g.kept counts)
+        (limited_holds (taken_back card₀) g.step.session card going.holds domain reading.command «data» (omega (arith, few_data)) g.rapdus.kept counts)
 
     -- what `gather` asks
-    pub gather_asks : OutcomeFits (length card'.files) o × (length s.waiting ≡ most_waiting) × (g.kept + rapdu_size (data_count o) ≤ length out)
+    pub gather_asks : OutcomeFits (length card'.files) o × (length s.waiting ≡ most_waiting) × (g.rapdus.kept + rapdu_size (data_count o) ≤ length out)
     gather_asks = (told.0, holds.waiting, omega (arith, told.1))
 
     -- after `gather`
-    module _ {out' : List ℕ} {rapdus : Rapdus} (written : out' ≡ overwrite out g.kept (rapdu (data_of o card'.files s.waiting) (word_of o)))
-        (sized : length (rapdu (data_of o card'.files s.waiting) (word_of o)) ≡ rapdu_size (data_count o)) (gathers : rapdus ≡ gathered_in counts g.kept (rapdu_size (data_count o))) where
+    module _ {out' : List ℕ} {rapdus : Rapdus} (written : out' ≡ overwrite out g.rapdus.kept (rapdu (data_of o card'.files s.waiting) (word_of o)))
+        (sized : length (rapdu (data_of o card'.files s.waiting) (word_of o)) ≡ rapdu_size (data_count o)) (gathers : rapdus ≡ gathered_in counts g.rapdus.kept (rapdu_size (data_count o))) where
       abbrev after : Gathered
       after = gathered_of (record { session = s; outcome = o; count = ended.count }) rapdus
 
       within : Within after
-      within = gathered_within counts after.step g.kept (rapdu_size (data_count o)) told.1 few-kept told.2 gathers
+      within = gathered_within counts after.step g.rapdus.kept (rapdu_size (data_count o)) told.1 few-kept told.2 gathers
 
       pub goes_on_lem : Going script definite from end application domain card₀ card' out' after (pick (goes_on (word_of o)) (start + size) end)
       unfolding last_rapdu

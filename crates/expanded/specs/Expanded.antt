@@ -48,7 +48,7 @@ room_to_answer = 1024
 -- the progress whose R-APDUs are gathered in a buffer
 unfoldable pub progress_of : Gathered → Card → List ℕ → Progress
 progress_of g card out =
-    record { state = state_of g.step card; kept = take g.kept out; last = part out g.kept g.last }
+    record { state = state_of g.step card; kept = take g.rapdus.kept out; last = part out g.rapdus.kept g.rapdus.last }
 
 -- a command's R-APDU goes to those kept, or stands last for now
 unfoldable pub answered : Bool → State → List ℕ → List ℕ → Progress
@@ -64,7 +64,7 @@ gathered_in counts kept n =
 
 -- a script with what is gathered of it
 abbrev pub gathered_of : Step → Rapdus → Gathered
-gathered_of step r = record { step = step; kept = r.kept; last = r.last }
+gathered_of step r = record { step = step; rapdus = r }
 
 -- the R-APDU of the last command, with the file memory after it
 unfoldable pub last_rapdu : Step → List ℕ → List ℕ

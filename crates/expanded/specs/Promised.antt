@@ -20,15 +20,15 @@ pub record CapduFits (capdu : List ℕ) (r : Reading) : Type 0 where
 pub record StepBadAsks (code : ℕ) (before : Gathered) (out : List ℕ) : Type 0 where
   pub byte : code < 256
   pub few : before.step.count < 65535
-  pub kept : before.kept ≤ most_kept
+  pub kept : before.rapdus.kept ≤ most_kept
   pub room : length out ≡ room_to_gather
 
 -- how far the C-APDUs of a script bring it: what is left from the place that is reached is the whole run, and no C-APDU stands there
 pub record Reaches (script : List ℕ) (definite : Bool) (from end application domain : ℕ) (card₀ card : Card) (out : List ℕ) (r : Reached) : Type 0 where
   pub inside : r.at ≤ end
   pub counted : r.gathered.step.count ≤ r.at
-  pub kept : r.at < end → r.gathered.kept ≤ most_kept
-  pub room : r.gathered.kept + r.gathered.last ≤ room_to_gather
+  pub kept : r.at < end → r.gathered.rapdus.kept ≤ most_kept
+  pub room : r.gathered.rapdus.kept + r.gathered.rapdus.last ≤ room_to_gather
   pub none : (from size : ℕ) → item_at script r.at end ≡ Capdu from size → ⊥
   pub rounds : ℕ
   pub enough : end ≤ r.at + rounds

@@ -23,15 +23,6 @@ use tlv::template::{Item, capdu};
 // The bytes that a script's R-APDUs are gathered in: 1,000, and the R-APDU of a last command without data.
 pub const ROOM_TO_GATHER: usize = 1004;
 
-// A script after some commands whose R-APDUs are gathered in a lent buffer: its step, how many of the bytes are kept, and how many
-// after these stand there for the last command.
-#[derive(Drop)]
-pub struct Gathered {
-    pub step: Step,
-    pub kept: usize,
-    pub last: usize,
-}
-
 // Whether the R-APDU of a command of a case is kept: each under AE, and those of cases 2 and 4 under AA.
 fn keeps(definite: bool, case: usize) -> bool
     ensures { result ≡ spec.keeps definite case }
@@ -39,11 +30,18 @@ fn keeps(definite: bool, case: usize) -> bool
     !definite | ((case == 2) | (case == 4))
 }
 
-// How many bytes of R-APDUs are kept, and how many after these stand there for the last command.
+// How many bytes of R-APDUs are kept in a lent buffer, and how many after these stand there for the last command.
 #[derive(Clone, Copy)]
-struct Rapdus {
-    kept: usize,
-    last: usize,
+pub struct Rapdus {
+    pub kept: usize,
+    pub last: usize,
+}
+
+// A script after some commands whose R-APDUs are gathered: its step, and how many bytes of them there are.
+#[derive(Drop)]
+pub struct Gathered {
+    pub step: Step,
+    pub rapdus: Rapdus,
 }
 
 // Returns what is gathered of a script that has run no command.
@@ -139,8 +137,7 @@ fn run_capdus(
                 outcome: ended.outcome,
                 count: ended.count,
             },
-            kept: rapdus.kept,
-            last: rapdus.last,
+            rapdus,
         },
         at: place,
     }
@@ -149,17 +146,17 @@ fn run_capdus(
 // Gathers a Bad format TLV as the last command. Returns the script after it.
 fn step_bad(code: usize, before: Gathered, out: &mut [u8]) -> Gathered
     requires { StepBadAsks code before out.old }
-    ensures { ((card : Card) → spec.progress_of result card out.new ≡ spec.step_bad code (spec.progress_of before card out.old)) × (result.kept + result.last ≤ spec.room_to_gather) }
+    ensures { ((card : Card) → spec.progress_of result card out.new ≡ spec.step_bad code (spec.progress_of before card out.old)) × (result.rapdus.kept + result.rapdus.last ≤ spec.room_to_gather) }
 {
-    let kept = before.kept;
+    let kept = before.rapdus.kept;
     let place = put_bad(out, kept, code);
     let mut step = before.step;
     step.count += 1;
-    Gathered {
-        step,
+    let rapdus = Rapdus {
         kept,
         last: place - kept,
-    }
+    };
+    Gathered { step, rapdus }
 }
 
 // Runs the items from the place `at` to the end of a template's value, as a script of an application on a sound card with the script's
@@ -176,7 +173,7 @@ pub fn run(
 ) -> Gathered
     requires { RunAsks script.now at end (held card.old) application out.old }
     ensures ran { (spec.progress_of result (held card.new) out.new ≡ spec.run_from (length script.now) script.now domain definite at end (spec.begun application (held card.old)))
-        × (result.kept + result.last ≤ spec.room_to_gather) × (result.step.count ≤ longest_script) }
+        × (result.rapdus.kept + result.rapdus.last ≤ spec.room_to_gather) × (result.step.count ≤ longest_script) }
     ensures stays { StaysLent card.old card.new }
 {
     let mut made = [0; 255];

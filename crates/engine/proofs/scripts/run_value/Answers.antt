@@ -27,7 +27,7 @@ run-g-requires c =
 pub slice_bounds-put_answer-end : goal.slice_bounds-put_answer-end
 slice_bounds-put_answer-end c =
     let r = c.run-g in
-    sym (length-take-le (r.result.kept + r.result.last) _ (omega (arith, r.ensures.ran.1)))
+    sym (length-take-le (r.result.rapdus.kept + r.result.rapdus.last) _ (omega (arith, r.ensures.ran.1)))
 
 pub put_answer-length-requires : goal.put_answer-length-requires
 put_answer-length-requires c =
