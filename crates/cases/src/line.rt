@@ -6,9 +6,8 @@ ghost use Rattle.journal.specs.Sound.{journal_length};
 ghost use Rattle.cases.specs.Cases as spec;
 
 use crate::input::case_of;
-use engine::LONGEST_SCRIPT;
+use engine::{Call, LONGEST_SCRIPT};
 use journal::JOURNAL_LENGTH;
-use engine::Call;
 use lines::digits::decode;
 use lines::put::{put_bytes, put_number};
 use lines::worked::{LENT_RESPONSE, run_on_worked};

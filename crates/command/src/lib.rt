@@ -31,6 +31,15 @@ pub struct Command {
     pub after: bool,
 }
 
+// A command as it is asked of a card: the format of its script, the access domain, its parsed form, and its data.
+#[derive(Clone, Copy)]
+pub struct Asked<'d> {
+    pub format: Format,
+    pub domain: usize,
+    pub command: Command,
+    pub data: &'d [u8],
+}
+
 // A command as it stands in some bytes: its parsed form, and where its data lie and how many there are.
 #[derive(Clone, Copy)]
 pub struct Reading {

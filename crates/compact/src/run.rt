@@ -1,19 +1,15 @@
 // Running a compact script.
 ghost use Rattle.std.specs.Prelude.{◌≡◌, ◌≤◌, length};
-ghost use Rattle.octets.specs.Bytes.{part};
-ghost use Rattle.octets.specs.Choice.{pick};
 ghost use Rattle.card.specs.Lent.{StaysLent, held};
 ghost use Rattle.journal.specs.Promised.{Starts};
 ghost use Rattle.session.specs.Session.{most_waiting};
-ghost use Rattle.command.specs.Outcomes.{word_of, goes_on};
 ghost use Rattle.step.specs.Limits.{longest_script};
 ghost use Rattle.step.specs.Steps.{state_of};
 ghost use Rattle.compact.specs.Compact as spec;
 
 use crate::reader::next_reading;
 use card::lent::LentCard;
-use command::ends::{goes_on, word_of};
-use command::{Format, Outcome, Reading, Step};
+use command::{Asked, Format, Step};
 use step::lent::{not_begun, step};
 use step::read::{data_of, next_place};
 
@@ -36,19 +32,13 @@ fn run_lent(
     // No `for`: each command says how many bytes it takes, and the last where the script stops.
     while at < script.len() {
         let reading = next_reading(script, at);
-        let data = data_of(script, reading);
-        ended = step(
-            &mut session,
-            Format::Compact,
+        let asked = Asked {
+            format: Format::Compact,
             domain,
-            reading.command,
-            data,
-            ended.count,
-            0,
-            false,
-            made,
-            card,
-        );
+            command: reading.command,
+            data: data_of(script, reading),
+        };
+        ended = step(&mut session, asked, ended.count, 0, false, made, card);
         at = next_place(reading.from + reading.size, ended.outcome, script.len());
     }
     Step {

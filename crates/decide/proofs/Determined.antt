@@ -11,7 +11,7 @@ use Rattle.decide.proofs.decide.Reads as decide
 
 module _ (κs : Lfts 5) where
   pub decide_determined :
-      Determined (λ args a e. decide.Learnt κs args a e × (a.made ≤ length e.1.1.1.1.1.1.1.1.0.now))
-      (λ args a e. pair (plan_of a args.1.1.1.0.now e.1.1.1.1.1.1.1.1.0.now) a.made)
+      Determined (λ args a e. decide.Learnt κs args a e × (a.made ≤ length e.1.1.1.1.1.0.now))
+      (λ args a e. pair (plan_of a args.0.«data».now e.1.1.1.1.1.0.now) a.made)
   decide_determined =
-      by_equation (λ args a e h. by_bytes a args.1.1.1.0.now e.1.1.1.1.1.1.1.1.0.now h.0.same h.1)
+      by_equation (λ args a e h. by_bytes a args.0.«data».now e.1.1.1.1.1.0.now h.0.same h.1)

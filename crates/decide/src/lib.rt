@@ -16,13 +16,13 @@ ghost use Rattle.plan.specs.Promised.{writes_of, plan_of, Fits, CostOfAsks};
 ghost use Rattle.decide.specs.Promised.{OfSelect, roomed, responded, DecideSelectAsks, WithRoomAsks, DecideAsks, Decided};
 
 use crate::checks::{formal_check, path_length_fits, unknown_check};
-use crate::file::{Asked, decide_on_file};
+use crate::file::{OnCard, decide_on_file};
 use command::checks::Check;
 use command::instruction::{
     ACTIVATE, DEACTIVATE, GET_RESPONSE, INCREASE, READ_BINARY, READ_RECORD, SEARCH, SELECT,
     UPDATE_BINARY, UPDATE_RECORD,
 };
-use command::{Command, Format};
+use command::{Asked, Command, Format};
 use journal::entry_bytes;
 use plan::does::select_entry;
 use plan::{Change, Decision, failed, waited};
@@ -62,13 +62,8 @@ fn decide_select(
     if !path_length_fits(c.p1, data.len()) {
         return failed(s, Check::WrongPathLength);
     }
-    let Some(e) = session::select::find(
-        table,
-        s.root as usize,
-        s.directory as usize,
-        c.p1,
-        data,
-    ) else {
+    let Some(e) = session::select::find(table, s.root as usize, s.directory as usize, c.p1, data)
+    else {
         return failed(s, Check::NotFound);
     };
     select_entry(format, s, c.p2, e, card::row_at(table, e), made)
@@ -105,25 +100,23 @@ fn with_room(d: Decision, s: Standing, lc: usize, used: usize, room: usize) -> D
 // Returns what is decided of a command in a session on a card, with its data; what it makes is put at the start of `made`. The card is lent to
 // be read alone, so there is no `LentCard`.
 pub fn decide(
-    format: Format,
-    domain: usize,
-    c: Command,
-    data: &[u8],
+    asked: Asked<'_>,
     s: Standing,
     table: &[u8],
     files: &[u8],
     journal: &[u8],
     made: &mut [u8],
 ) -> Decision
-    requires { DecideAsks (lent table.now files.now journal.now) s c (length «data».now) × (length made.old ≡ most_waiting) }
-    ensures { Decided (lent table.now files.now journal.now) «data».now made.new (planned (situation format domain c «data».now s (lent table.now files.now journal.now))) result }
+    requires { DecideAsks (lent table.now files.now journal.now) s asked.command (length asked.«data».now) × (length made.old ≡ most_waiting) }
+    ensures { Decided (lent table.now files.now journal.now) asked.entry.«data».now made.new (planned (situation asked.entry.format asked.entry.domain asked.entry.command asked.entry.«data».now s (lent table.now files.now journal.now))) result }
 {
+    let format = asked.format;
+    let domain = asked.domain;
+    let c = asked.command;
+    let data = asked.data;
     let lc = data.len();
-    let asked = Asked {
-        format,
-        domain,
-        command: c,
-        data,
+    let on_card = OnCard {
+        asked,
         session: s,
         table,
         files,
@@ -138,14 +131,14 @@ pub fn decide(
             Ok(()) => get_response(c, s),
             Err(k) => failed(s, k),
         },
-        READ_BINARY => decide_on_file::<READ_BINARY>(asked, made),
-        UPDATE_BINARY => decide_on_file::<UPDATE_BINARY>(asked, made),
-        READ_RECORD => decide_on_file::<READ_RECORD>(asked, made),
-        UPDATE_RECORD => decide_on_file::<UPDATE_RECORD>(asked, made),
-        SEARCH => decide_on_file::<SEARCH>(asked, made),
-        INCREASE => decide_on_file::<INCREASE>(asked, made),
-        DEACTIVATE => decide_on_file::<DEACTIVATE>(asked, made),
-        ACTIVATE => decide_on_file::<ACTIVATE>(asked, made),
+        READ_BINARY => decide_on_file::<READ_BINARY>(on_card, made),
+        UPDATE_BINARY => decide_on_file::<UPDATE_BINARY>(on_card, made),
+        READ_RECORD => decide_on_file::<READ_RECORD>(on_card, made),
+        UPDATE_RECORD => decide_on_file::<UPDATE_RECORD>(on_card, made),
+        SEARCH => decide_on_file::<SEARCH>(on_card, made),
+        INCREASE => decide_on_file::<INCREASE>(on_card, made),
+        DEACTIVATE => decide_on_file::<DEACTIVATE>(on_card, made),
+        ACTIVATE => decide_on_file::<ACTIVATE>(on_card, made),
         _ => failed(s, unknown_check(c)),
     }
 }

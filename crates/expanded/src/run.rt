@@ -14,8 +14,7 @@ use crate::answer::{put_bad, put_rapdu};
 use crate::capdu::command_of;
 use crate::reader::next_item;
 use card::lent::LentCard;
-use command::ends::{goes_on, word_of};
-use command::{Format, Outcome, Reading, Step};
+use command::{Asked, Format, Outcome, Step};
 use step::lent::{not_begun, step};
 use step::read::{data_of, next_place};
 use tlv::template::{Item, capdu};
@@ -106,13 +105,16 @@ fn run_capdus(
     while let Item::Capdu(from, size) = next_item(script, place, end) {
         let capdu = capdu(script, from, size);
         let reading = command_of(capdu);
+        let asked = Asked {
+            format: Format::Expanded,
+            domain,
+            command: reading.command,
+            data: data_of(capdu, reading),
+        };
         let counts = keeps(definite, reading.command.case);
         ended = step(
             &mut session,
-            Format::Expanded,
-            domain,
-            reading.command,
-            data_of(capdu, reading),
+            asked,
             ended.count,
             rapdus.kept,
             counts,

@@ -22,5 +22,5 @@ module _ (κs : Lfts 1) where
   data_of_determined = by_equation (λ args a e h. h)
 
 module _ (κs : Lfts 5) where
-  pub step_determined : Determined (step.Learnt κs) (λ args a e. pair (moved_to e.0.now a.outcome (held e.1.1.1.1.1.1.1.1.1.0.now)) a.count)
+  pub step_determined : Determined (step.Learnt κs) (λ args a e. pair (moved_to e.0.now a.outcome (held e.1.1.1.1.1.1.0.now)) a.count)
   step_determined = by_equation (λ args a e h. both h.0.0 h.0.1)

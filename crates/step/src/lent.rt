@@ -8,7 +8,7 @@ ghost use Rattle.step.specs.Promised as spec;
 use crate::run_command;
 use card::lent::LentCard;
 use command::ends::NORMAL;
-use command::{Command, Format, Outcome};
+use command::{Asked, Outcome};
 use session::Session;
 
 // How a command ended, and how many commands there were with it.
@@ -28,31 +28,25 @@ pub fn not_begun() -> Ended
     }
 }
 
-// Runs one command on a card, with its data, after `count` others: the lent session moves on. Returns how the command ended, and the
+// Runs one command on a card, after `count` others: the lent session moves on. Returns how the command ended, and the
 // count with it.
 pub fn step(
     session: &mut Session,
-    format: Format,
-    domain: usize,
-    c: Command,
-    data: &[u8],
+    asked: Asked<'_>,
     count: usize,
     kept: usize,
     counts: bool,
     made: &mut [u8],
     card: &mut LentCard<'_>,
 ) -> Ended
-    requires { spec.RunCommandAsks (held card.old) session.old.standing c (length «data».now) kept made.old × (count < 65535) }
+    requires { spec.RunCommandAsks (held card.old) session.old.standing asked.command (length asked.«data».now) kept made.old × (count < 65535) }
     ensures ran { (moved_to session.new result.outcome (held card.new)
-        ≡ commanded format domain c «data».now session.old kept counts (held card.old))
+        ≡ commanded asked.entry.format asked.entry.domain asked.entry.command asked.entry.«data».now session.old kept counts (held card.old))
         × (result.count ≡ count + 1) }
     ensures stays { StaysLent card.old card.new }
 {
     let after = run_command(
-        format,
-        domain,
-        c,
-        data,
+        asked,
         session.standing,
         count,
         kept,

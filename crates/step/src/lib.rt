@@ -14,19 +14,16 @@ ghost use Rattle.step.specs.Promised as spec;
 
 use act::{Done, carry_out};
 use card::lent::LentCard;
-use command::{Command, Format};
+use command::Asked;
 use decide::decide;
 use limit::limited;
 use session::Standing;
 
-// Runs one command on a card, with its data, from where a script stands after `count` others, with `kept` bytes of R-APDUs kept and its
+// Runs one command on a card, from where a script stands after `count` others, with `kept` bytes of R-APDUs kept and its
 // own counted or not. Returns where the script stands after it, how it ended, and the count with it. What it makes stands in `made` until
 // it is done, and is then put to the front of the waiting bytes.
 fn run_command(
-    format: Format,
-    domain: usize,
-    c: Command,
-    data: &[u8],
+    asked: Asked<'_>,
     s: Standing,
     count: usize,
     kept: usize,
@@ -35,20 +32,20 @@ fn run_command(
     waiting: &mut [u8],
     card: &mut LentCard<'_>,
 ) -> Done
-    requires { spec.RunCommandAsks (held card.old) s c (length «data».now) kept made.old × (length waiting.old ≡ most_waiting) × (count < 65535) }
+    requires { spec.RunCommandAsks (held card.old) s asked.command (length asked.«data».now) kept made.old × (length waiting.old ≡ most_waiting) × (count < 65535) }
     ensures ran { (moved_to (session_of result.standing waiting.new) result.outcome (held card.new)
-        ≡ commanded format domain c «data».now (session_of s waiting.old) kept counts (held card.old))
+        ≡ commanded asked.entry.format asked.entry.domain asked.entry.command asked.entry.«data».now (session_of s waiting.old) kept counts (held card.old))
         × (result.count ≡ count + 1) }
     ensures stays { StaysLent card.old card.new }
 {
     let table = &mut *card.table;
     let files = &mut *card.files;
     let journal = &mut *card.journal;
-    let d = decide(format, domain, c, data, s, table, files, journal, made);
+    let d = decide(asked, s, table, files, journal, made);
     carry_out(
         limited(d, s, kept, counts),
         count,
-        data,
+        asked.data,
         made,
         waiting,
         card,

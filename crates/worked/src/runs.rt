@@ -4,8 +4,8 @@ ghost use Rattle.octets.specs.Bytes.{overwrite};
 ghost use Rattle.worked.specs.Printed.{most_printed, ran_on, result_lines};
 
 use crate::output::put_lines;
-use journal::JOURNAL_LENGTH;
 use engine::Call;
+use journal::JOURNAL_LENGTH;
 use lines::worked::{LENT_RESPONSE, run_on_worked};
 
 // Runs a script on the worked card, and puts the run's five lines at the start of `out`. Returns the place after them.

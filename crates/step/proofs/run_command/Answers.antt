@@ -21,7 +21,7 @@ decide-d-requires c =
 pub limited-requires : goal.limited-requires
 limited-requires c =
     let d = c.decide-d in
-    (c.requires.0.kept, decided-few c.args.format c.args.domain c.args.c c.args.«data».now c.args.s (held c.args.card.now) c.requires.0.ready _ d.result d.ensures)
+    (c.requires.0.kept, decided-few c.args.asked.format c.args.asked.domain c.args.asked.command c.args.asked.«data».now c.args.s (held c.args.card.now) c.requires.0.ready _ d.result d.ensures)
 
 pub carry_out-requires : goal.carry_out-requires
 unfolding plan_of

@@ -56,7 +56,7 @@ step-ended-requires c =
         ready = record {
           sound = g.holds.sound;
           good = g.holds.good;
-          bytes = few_data c.args.script.now c.next_reading-reading.result.command c.next_reading-reading.result.from c.next_reading-reading.result.size c.data_of-data.ensures c.next_reading-reading.ensures.1.bytes;
+          bytes = few_data c.args.script.now c.next_reading-reading.result.command c.next_reading-reading.result.from c.next_reading-reading.result.size c.data_of.ensures c.next_reading-reading.ensures.1.bytes;
         };
         kept = omega arith;
         made = c.loop-at.invariant.made;
@@ -71,12 +71,12 @@ did : (c : goal.After-next_place-at)
 did c =
     let card = held c.loop-at.card in
     let before = step_of c.loop-at.session c.loop-at.ended in
-    told c.args.script.now c.args.domain c.next_reading-reading.result before card c.data_of-data.ensures
+    told c.args.script.now c.args.domain c.next_reading-reading.result before card c.data_of.ensures
     (one_more before (step_of c.step-ended.new.session c.step-ended.result) card _ _ c.step-ended.ensures.ran.0 c.step-ended.ensures.ran.1)
 
-pub data_of-data-requires : goal.data_of-data-requires
+pub data_of-requires : goal.data_of-requires
 unfolding place_after
-data_of-data-requires c = let inside = c.next_reading-reading.ensures.1.inside in omega arith
+data_of-requires c = let inside = c.next_reading-reading.ensures.1.inside in omega arith
 
 pub overflow_add-reading : goal.overflow_add-reading
 unfolding place_after

@@ -28,4 +28,4 @@ pub returns : goal.returns
 returns g c =
     let a = c.args.a in
     let p = c.requires in
-    room-decided a.format a.domain a.command a.«data».now a.session a.table.now a.files.now a.journal.now _ p.0 p.1 p.2 (own_used _ c.head_of-used.ensures.0) c.room_of-room.ensures (c.file_command-d.auto.made ∙ p.3) c.file_command-d.ensures c.with_room.ensures
+    room-decided a.asked.format a.asked.domain a.asked.command a.asked.«data».now a.session a.table.now a.files.now a.journal.now _ p.0 p.1 p.2 (own_used _ c.head_of-used.ensures.0) c.room_of-room.ensures (c.file_command-d.auto.made ∙ p.3) c.file_command-d.ensures c.with_room.ensures

@@ -30,7 +30,7 @@ returns-in-Err-file_check g c =
 pub read_binary-requires : goal.read_binary-requires
 read_binary-requires g c =
     let p = c.requires.0 in
-    let known = check_passed c.args.a.«data».now c.target_row-r.ensures c.file_check.ensures c.in_default-file_check.is p in
+    let known = check_passed c.args.a.asked.«data».now c.target_row-r.ensures c.file_check.ensures c.in_default-file_check.is p in
     record { row = c.target_row-r.ensures.1; p1 = p.bytes.p1; p2 = p.bytes.p2; inside = to_read known (c.requires.1 ∙ c.in-176.is) }
 
 pub returns-in-176 : goal.returns-in-176
@@ -44,7 +44,7 @@ returns-in-176 g c =
 pub returns-in-214 : goal.returns-in-214
 unfolding situation file_at done_by pick Fits
 returns-in-214 g c =
-    let known = check_passed c.args.a.«data».now c.target_row-r.ensures c.file_check.ensures c.in_default-file_check.is c.requires.0 in
+    let known = check_passed c.args.a.asked.«data».now c.target_row-r.ensures c.file_check.ensures c.in_default-file_check.is c.requires.0 in
     check_plainly c.formal_check.ensures c.in_default.is c.target_row-r.ensures c.file_check.ensures c.in_default-file_check.is (c.requires.1 ∙ c.in-214.is) refl
     (λ journal. c.update_binary.ensures.0 _ _ _ (sym c.target_row-r.ensures.0))
     (rw c.update_binary.ensures.1 (known.inside, to_update known (c.requires.1 ∙ c.in-214.is)))
@@ -53,7 +53,7 @@ returns-in-214 g c =
 pub read_record-requires : goal.read_record-requires
 read_record-requires g c =
     let i = c.requires.1 ∙ c.in-178.is in
-    let known = check_passed c.args.a.«data».now c.target_row-r.ensures c.file_check.ensures c.in_default-file_check.is c.requires.0 in
+    let known = check_passed c.args.a.asked.«data».now c.target_row-r.ensures c.file_check.ensures c.in_default-file_check.is c.requires.0 in
     let has = of_records known (rw i) in
     (has_named known (rw i) (rw i), omega (arith, has.most))
 
@@ -68,14 +68,14 @@ returns-in-178 g c =
 pub update_record-requires : goal.update_record-requires
 update_record-requires g c =
     let i = c.requires.1 ∙ c.in-220.is in
-    let known = check_passed c.args.a.«data».now c.target_row-r.ensures c.file_check.ensures c.in_default-file_check.is c.requires.0 in
+    let known = check_passed c.args.a.asked.«data».now c.target_row-r.ensures c.file_check.ensures c.in_default-file_check.is c.requires.0 in
     let has = of_records known (rw i) in
     record { row = has.row; least = has.least; counted = has.counted; most = omega (arith, has.most); named = λ z. has_named known (rw i) (rw i z) }
 
 pub returns-in-220 : goal.returns-in-220
 unfolding situation file_at done_by pick
 returns-in-220 g c =
-    let known = check_passed c.args.a.«data».now c.target_row-r.ensures c.file_check.ensures c.in_default-file_check.is c.requires.0 in
+    let known = check_passed c.args.a.asked.«data».now c.target_row-r.ensures c.file_check.ensures c.in_default-file_check.is c.requires.0 in
     check_plainly c.formal_check.ensures c.in_default.is c.target_row-r.ensures c.file_check.ensures c.in_default-file_check.is (c.requires.1 ∙ c.in-220.is) refl
     (λ journal. c.update_record.ensures.0 _ _ _ (sym c.target_row-r.ensures.0) refl)
     (rw c.update_record.ensures.1 (update-fits known (c.requires.1 ∙ c.in-220.is) _ (newest-inside c.requires.0)))
@@ -84,7 +84,7 @@ returns-in-220 g c =
 pub search_records-requires : goal.search_records-requires
 search_records-requires g c =
     let i = c.requires.1 ∙ c.in-162.is in
-    let known = check_passed c.args.a.«data».now c.target_row-r.ensures c.file_check.ensures c.in_default-file_check.is c.requires.0 in
+    let known = check_passed c.args.a.asked.«data».now c.target_row-r.ensures c.file_check.ensures c.in_default-file_check.is c.requires.0 in
     let n = has_named known (rw i) (rw i) in
     (i, record { file = of_records known (rw i); first = n.first; last = n.last; made = c.requires.3 })
 
@@ -98,7 +98,7 @@ returns-in-162 g c =
 -- INCREASE
 pub increase-requires : goal.increase-requires
 increase-requires g c =
-    let known = check_passed c.args.a.«data».now c.target_row-r.ensures c.file_check.ensures c.in_default-file_check.is c.requires.0 in
+    let known = check_passed c.args.a.asked.«data».now c.target_row-r.ensures c.file_check.ensures c.in_default-file_check.is c.requires.0 in
     let n = to_sum known (c.requires.1 ∙ c.in-50.is) in
     record { file = n.0; short = n.1; fits = n.2; made = c.requires.3 }
 
