@@ -1,7 +1,6 @@
 // What an outcome stands for: the paper's word, whether the script goes on, and the data.
 ghost use Rattle.std.specs.Prelude.{◌≡◌, ◌+◌, ◌≤◌, length, take};
 ghost use Rattle.octets.specs.Bytes.{part, overwrite};
-ghost use Rattle.session.specs.Session.{most_waiting};
 ghost use Rattle.command.specs.Outcomes as spec;
 ghost use Rattle.command.specs.Promised.{OutcomeFits};
 
@@ -69,8 +68,8 @@ fn from_waiting<'f, 'w>(files: &'f [u8], waiting: &'w [u8], n: usize) -> &'w [u8
 
 // Writes the data of an outcome at the place `at`, and returns the place after them.
 #[tactic(auto, unfolding(crate::specs::Outcomes::data_of, crate::specs::Promised::OutcomeFits))]
-pub fn put_data(out: &mut [u8], at: usize, o: Outcome, files: &[u8], waiting: &[u8]) -> usize
-    requires { OutcomeFits (length files.now) o × (length waiting.now ≡ most_waiting) × (at + spec.data_count o ≤ length out.old) }
+pub fn put_data(out: &mut [u8], at: usize, o: Outcome, files: &[u8], waiting: &[u8; 255]) -> usize
+    requires { OutcomeFits (length files.now) o × (at + spec.data_count o ≤ length out.old) }
     ensures { (out.new ≡ overwrite out.old at (spec.data_of o files.now waiting.now)) × (result ≡ at + spec.data_count o) }
 {
     match o {

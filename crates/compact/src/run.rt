@@ -2,7 +2,6 @@
 ghost use Rattle.std.specs.Prelude.{◌≡◌, ◌≤◌, length};
 ghost use Rattle.card.specs.Lent.{StaysLent, held};
 ghost use Rattle.journal.specs.Promised.{Starts};
-ghost use Rattle.session.specs.Session.{most_waiting};
 ghost use Rattle.step.specs.Limits.{longest_script};
 ghost use Rattle.step.specs.Steps.{state_of};
 ghost use Rattle.compact.specs.Compact as spec;
@@ -19,10 +18,10 @@ fn run_lent(
     script: &[u8],
     application: usize,
     domain: usize,
-    made: &mut [u8],
+    made: &mut [u8; 255],
     card: &mut LentCard<'_>,
 ) -> Step
-    requires { Starts (held card.old) application × (length script.now ≤ longest_script) × (length made.old ≡ most_waiting) }
+    requires { Starts (held card.old) application × (length script.now ≤ longest_script) }
     ensures ran { state_of result (held card.new) ≡ spec.run script.now application domain (held card.old) }
     ensures stays { StaysLent card.old card.new }
 {

@@ -73,12 +73,11 @@ pub record FoundFits (t : List ℕ) (e : ℕ) : Type 0 where
   pub byte : e < 256
   pub fcp : FcpFits (row_of t e)
 
--- what SELECT goes by: its instruction, a root and a directory of the table, what it finds, and the bytes in which the FCP is made
-pub record DecideSelectAsks (t «data» : List ℕ) (s : Standing) (c : Command) (bytes : List ℕ) : Type 0 where
+-- what SELECT goes by: its instruction, a root and a directory of the table, and what it finds
+pub record DecideSelectAsks (t «data» : List ℕ) (s : Standing) (c : Command) : Type 0 where
   pub instruction : c.instruction ≡ ins.select
   pub stands : StandsIn t s.root s.directory
   pub found : (e : ℕ) → find t s.root s.directory c.p1 «data» ≡ Some e → FoundFits t e
-  pub made : length bytes ≡ most_waiting
 
 -- what the check of the journal's room goes by: the data are counted by a byte and the used bytes by two, they are no more than the
 -- room, and a sum can wait

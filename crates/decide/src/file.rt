@@ -2,7 +2,6 @@
 ghost use Rattle.std.specs.Prelude.{◌≡◌, true, length};
 ghost use Rattle.card.specs.Row.{HasEntry, row_of, lent};
 ghost use Rattle.card.specs.Promised.{RowFits};
-ghost use Rattle.session.specs.Session.{most_waiting};
 ghost use Rattle.plan.specs.Files as files-spec;
 ghost use Rattle.decide.specs.Decisions.{situation, planned};
 ghost use Rattle.decide.specs.Promised.{is_of_file, FileCommandAsks, DecideAsks, Unroomed, Decided};
@@ -39,8 +38,8 @@ pub struct OnCard<'a> {
 // the instruction does, which puts what it makes at the start of `made`. The instruction is a constant, so that a compiler drops the
 // tests that it settles: with the command's own number in its place UPDATEs of one byte took 1.49 times what the second program takes,
 // and the limit is 1.25.
-fn file_command<const I: usize>(a: OnCard, made: &mut [u8]) -> Decision
-    requires { FileCommandAsks a.table.now a.files.now a.session a.asked.command (length a.asked.«data».now) × (a.asked.command.instruction ≡ I) × (is_of_file I ≡ true) × (length made.old ≡ most_waiting) }
+fn file_command<const I: usize>(a: OnCard, made: &mut [u8; 255]) -> Decision
+    requires { FileCommandAsks a.table.now a.files.now a.session a.asked.command (length a.asked.«data».now) × (a.asked.command.instruction ≡ I) × (is_of_file I ≡ true) }
     ensures { Unroomed a.entry.asked.format a.entry.asked.domain a.entry.asked.command a.entry.asked.«data».now a.entry.session a.entry.table.now a.entry.files.now made.new result }
 {
     let c = a.asked.command;
@@ -65,8 +64,8 @@ fn file_command<const I: usize>(a: OnCard, made: &mut [u8]) -> Decision
 }
 
 // Returns what is decided of a file command with the instruction I: of one that the journal has no room for, 6581.
-pub fn decide_on_file<const I: usize>(a: OnCard, made: &mut [u8]) -> Decision
-    requires { DecideAsks (lent a.table.now a.files.now a.journal.now) a.session a.asked.command (length a.asked.«data».now) × (a.asked.command.instruction ≡ I) × (is_of_file I ≡ true) × (length made.old ≡ most_waiting) }
+pub fn decide_on_file<const I: usize>(a: OnCard, made: &mut [u8; 255]) -> Decision
+    requires { DecideAsks (lent a.table.now a.files.now a.journal.now) a.session a.asked.command (length a.asked.«data».now) × (a.asked.command.instruction ≡ I) × (is_of_file I ≡ true) }
     ensures { Decided (lent a.entry.table.now a.entry.files.now a.entry.journal.now) a.entry.asked.«data».now made.new (planned (situation a.entry.asked.format a.entry.asked.domain a.entry.asked.command a.entry.asked.«data».now a.entry.session (lent a.entry.table.now a.entry.files.now a.entry.journal.now))) result }
 {
     let used = journal::read::head_of(a.journal).used;

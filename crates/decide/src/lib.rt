@@ -54,9 +54,9 @@ fn decide_select(
     data: &[u8],
     s: Standing,
     table: &[u8],
-    made: &mut [u8],
+    made: &mut [u8; 255],
 ) -> Decision
-    requires { DecideSelectAsks table.now «data».now s c made.old }
+    requires { DecideSelectAsks table.now «data».now s c }
     ensures { ((w : Situation) → OfSelect format c «data».now s table.now w → plan_of result «data».now made.new ≡ decided w (first_failing w select_checks)) × (result.change ≡ Change.Nothing) }
 {
     if !path_length_fits(c.p1, data.len()) {
@@ -105,9 +105,9 @@ pub fn decide(
     table: &[u8],
     files: &[u8],
     journal: &[u8],
-    made: &mut [u8],
+    made: &mut [u8; 255],
 ) -> Decision
-    requires { DecideAsks (lent table.now files.now journal.now) s asked.command (length asked.«data».now) × (length made.old ≡ most_waiting) }
+    requires { DecideAsks (lent table.now files.now journal.now) s asked.command (length asked.«data».now) }
     ensures { Decided (lent table.now files.now journal.now) asked.entry.«data».now made.new (planned (situation asked.entry.format asked.entry.domain asked.entry.command asked.entry.«data».now s (lent table.now files.now journal.now))) result }
 {
     let format = asked.format;

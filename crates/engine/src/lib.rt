@@ -49,7 +49,7 @@ pub enum Refused {
 
 impl Refused {
     // Returns the call number that stands for it.
-    pub fn number(self) -> usize
+    fn number(self) -> usize
         ensures { (result ≡ number_of self) × (result < 256) }
     {
         match self {

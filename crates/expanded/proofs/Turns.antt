@@ -15,7 +15,6 @@ use Rattle.tlv.specs.declared.template.Item.TheVariants.{Capdu}
 use Rattle.tlv.specs.Templates.{least_capdu, item_at}
 use Rattle.journal.specs.Changes.{taken_back}
 use Rattle.session.specs.declared.Session.{Session}
-use Rattle.session.specs.Session.{most_waiting}
 use Rattle.command.specs.declared.Format.TheVariants.{Expanded}
 use Rattle.command.specs.declared.Outcome.{Outcome}
 use Rattle.command.specs.declared.Reading.{Reading}
@@ -47,14 +46,13 @@ module _ {script : List ℕ} {definite : Bool} {from end application domain : �
   few-kept = going.kept (omega (arith, lies.0, lies.1))
 
   -- what `step` asks
-  pub asks : end ≤ length script → length script ≤ longest_script → {made : List ℕ} → length made ≡ most_waiting
-      → RunCommandAsks card g.step.session.standing reading.command (length «data») g.rapdus.kept made × (g.step.count < 65535)
-  asks inside short long =
+  pub asks : end ≤ length script → length script ≤ longest_script
+      → RunCommandAsks card g.step.session.standing reading.command (length «data») g.rapdus.kept × (g.step.count < 65535)
+  asks inside short =
       let b = fits.bytes in (
         record {
           ready = record { sound = going.holds.sound; good = going.holds.good; bytes = record { p1 = b.p1; p2 = b.p2; p3 = b.p3; brief = few_data } };
           kept = few-kept;
-          made = long;
         },
         omega (arith, going.counted, going.inside),
       )
@@ -76,8 +74,8 @@ module _ {script : List ℕ} {definite : Bool} {from end application domain : �
         (limited_holds (taken_back card₀) g.step.session card going.holds domain reading.command «data» (omega (arith, few_data)) g.rapdus.kept counts)
 
     -- what `gather` asks
-    pub gather_asks : OutcomeFits (length card'.files) o × (length s.waiting ≡ most_waiting) × (g.rapdus.kept + rapdu_size (data_count o) ≤ length out)
-    gather_asks = (told.0, holds.waiting, omega (arith, told.1))
+    pub gather_asks : OutcomeFits (length card'.files) o × (g.rapdus.kept + rapdu_size (data_count o) ≤ length out)
+    gather_asks = (told.0, omega (arith, told.1))
 
     -- after `gather`
     module _ {out' : List ℕ} {rapdus : Rapdus} (written : out' ≡ overwrite out g.rapdus.kept (rapdu (data_of o card'.files s.waiting) (word_of o)))

@@ -1,7 +1,6 @@
 // Writing the answer: R-APDUs, Bad format TLVs and the count of commands.
 ghost use Rattle.std.specs.Prelude.{◌≡◌, ◌+◌, ◌≤◌, ◌<◌, length};
 ghost use Rattle.octets.specs.Bytes.{overwrite};
-ghost use Rattle.session.specs.Session.{most_waiting};
 ghost use Rattle.command.specs.Outcomes.{word_of, data_of, data_count};
 ghost use Rattle.command.specs.Promised.{OutcomeFits};
 ghost use Rattle.step.specs.Limits.{longest_script, rapdu_size};
@@ -27,9 +26,9 @@ pub(crate) fn put_rapdu(
     at: usize,
     o: Outcome,
     files: &[u8],
-    waiting: &[u8],
+    waiting: &[u8; 255],
 ) -> usize
-    requires { OutcomeFits (length files.now) o × (length waiting.now ≡ most_waiting) × (at + rapdu_size (data_count o) ≤ length out.old) }
+    requires { OutcomeFits (length files.now) o × (at + rapdu_size (data_count o) ≤ length out.old) }
     ensures { (out.new ≡ overwrite out.old at (spec.rapdu (data_of o files.now waiting.now) (word_of o))) × (result ≡ at + rapdu_size (data_count o)) }
 {
     octets::fill(out, at, 1, RAPDU);

@@ -3,7 +3,6 @@ ghost use Rattle.std.specs.Prelude.{◌≡◌, ◌+◌, ◌≤◌, length};
 ghost use Rattle.octets.specs.Bytes.{part, overwrite};
 ghost use Rattle.card.specs.Lent.{StaysLent, held};
 ghost use Rattle.card.specs.Row.{Card};
-ghost use Rattle.session.specs.Session.{most_waiting};
 ghost use Rattle.command.specs.Outcomes.{word_of, data_of, data_count};
 ghost use Rattle.command.specs.Promised.{OutcomeFits};
 ghost use Rattle.step.specs.Limits.{longest_script, rapdu_size};
@@ -58,9 +57,9 @@ fn gather(
     kept: usize,
     out: &mut [u8],
     files: &[u8],
-    waiting: &[u8],
+    waiting: &[u8; 255],
 ) -> Rapdus
-    requires { OutcomeFits (length files.now) o × (length waiting.now ≡ most_waiting) × (kept + rapdu_size (data_count o) ≤ length out.old) }
+    requires { OutcomeFits (length files.now) o × (kept + rapdu_size (data_count o) ≤ length out.old) }
     ensures { (out.new ≡ overwrite out.old kept (spec.rapdu (data_of o files.now waiting.now) (word_of o)))
         × (length (spec.rapdu (data_of o files.now waiting.now) (word_of o)) ≡ rapdu_size (data_count o)) × (result ≡ spec.gathered_in counts kept (rapdu_size (data_count o))) }
 {
@@ -91,10 +90,10 @@ fn run_capdus(
     application: usize,
     domain: usize,
     out: &mut [u8],
-    made: &mut [u8],
+    made: &mut [u8; 255],
     card: &mut LentCard<'_>,
 ) -> Reached
-    requires { RunAsks script.now at end (held card.old) application out.old × (length made.old ≡ most_waiting) }
+    requires { RunAsks script.now at end (held card.old) application out.old }
     ensures reaches { Reaches script.now definite at end application domain (held card.old) (held card.new) out.new result }
     ensures stays { StaysLent card.old card.new }
 {

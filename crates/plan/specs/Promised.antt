@@ -88,12 +88,11 @@ update_change c s r =
 unfoldable pub summed : ℕ → File → List ℕ → Standing → Plan → Plan
 summed i f «data» s plan = pick (sum_too_long i f «data») (failed s SumTooLong) plan
 
--- SELECT of entry e asks that its row has an FCP and fields that fit, that e is a byte, and for the bytes in which the FCP is made
-pub record SelectEntryAsks (e : ℕ) (r : Row) (bytes : List ℕ) : Type 0 where
+-- SELECT of entry e asks that its row has an FCP and fields that fit, and that e is a byte
+pub record SelectEntryAsks (e : ℕ) (r : Row) : Type 0 where
   pub fcp : FcpFits r
   pub row : RowFits r
   pub entry : e < 256
-  pub made : length bytes ≡ most_waiting
 
 -- READ BINARY asks that the row's fields fit, that P1 and P2 are bytes, and that the offset lies in the file
 pub record ReadBinaryAsks (c : Command) (r : Row) : Type 0 where
@@ -119,20 +118,17 @@ pub record ToSearchAsks (r : Row) (number : ℕ) : Type 0 where
   pub last : number ≤ record_count r
   pub most : record_count r ≤ most_records
 
--- a search from record `from` on asks for a record file that has that record, and for the bytes in which the numbers are noted
-pub record SearchAsks (files : List ℕ) (r : Row) (from : ℕ) (bytes : List ℕ) : Type 0 where
+-- a search from record `from` on asks for a record file that has that record
+pub record SearchAsks (files : List ℕ) (r : Row) (from : ℕ) : Type 0 where
   pub file : Recorded (length files) r
   pub first : 1 ≤ from
   pub last : from ≤ record_count r
-  pub made : length bytes ≡ most_waiting
 
--- INCREASE asks for a record file with records that are no longer than it takes, for no more data than a record has bytes, and for the
--- bytes in which the sum is made
-pub record IncreaseAsks (files «data» : List ℕ) (r : Row) (bytes : List ℕ) : Type 0 where
+-- INCREASE asks for a record file with records that are no longer than it takes, and for no more data than a record has bytes
+pub record IncreaseAsks (files «data» : List ℕ) (r : Row) : Type 0 where
   pub file : Recorded (length files) r
   pub short : r.record_length ≤ longest_increase
   pub fits : length «data» ≤ r.record_length
-  pub made : length bytes ≡ most_waiting
 
 -- a sum has no more bytes than can wait
 unfoldable pub CostOfAsks : Change → Type 0

@@ -37,9 +37,9 @@ pub fn select_entry(
     p2: usize,
     e: usize,
     r: Row,
-    made: &mut [u8],
+    made: &mut [u8; 255],
 ) -> Decision
-    requires { SelectEntryAsks e r made.old }
+    requires { SelectEntryAsks e r }
     ensures { ((«data» : List ℕ) → plan_of result «data» made.new ≡ plans.select_entry format s p2 e r) × (result.change ≡ Change.Nothing) }
 {
     let next = session::selected(s, e, r);
@@ -143,9 +143,9 @@ pub fn search_records(
     s: Standing,
     r: Row,
     files: &[u8],
-    made: &mut [u8],
+    made: &mut [u8; 255],
 ) -> Decision
-    requires { (c.instruction ≡ ins.search) × SearchAsks files.now r (plans.named_by c s.record_number r) made.old }
+    requires { (c.instruction ≡ ins.search) × SearchAsks files.now r (plans.named_by c s.record_number r) }
     ensures { ((f : File) → f.row ≡ r → f.content ≡ part files.now r.start r.size → plan_of result «data».now made.new ≡ plans.search format c «data».now s f) × (result.change ≡ Change.Nothing) }
 {
     let number = record_of(c, s.record_number as usize, r);
@@ -164,9 +164,9 @@ pub fn increase(
     s: Standing,
     r: Row,
     files: &[u8],
-    made: &mut [u8],
+    made: &mut [u8; 255],
 ) -> Decision
-    requires { IncreaseAsks files.now «data».now r made.old }
+    requires { IncreaseAsks files.now «data».now r }
     ensures { ((f : File) → f.row ≡ r → f.entry ≡ s.file → f.content ≡ part files.now r.start r.size → plan_of result «data».now made.new ≡ summed ins.increase f «data».now s (plans.increase format «data».now s f)) × ((t : ℕ) → place_of_newest s.file < t → Fits t (length files.now) (length «data».now) result.change) }
 {
     let record = r.record_length;

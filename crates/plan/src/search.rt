@@ -68,9 +68,9 @@ pub(crate) fn search(
     p2: usize,
     from: usize,
     data: &[u8],
-    out: &mut [u8],
+    out: &mut [u8; 255],
 ) -> usize
-    requires { SearchAsks files.now r from out.old }
+    requires { SearchAsks files.now r from }
     ensures { (out.new ≡ overwrite out.old 0 (spec.found_records r (part files.now r.start r.size) p2 «data».now from))
         × (result ≡ length (spec.found_records r (part files.now r.start r.size) p2 «data».now from)) }
 {

@@ -6,7 +6,6 @@ use Rattle.journal.specs.Entries.{head_of}
 use Rattle.journal.specs.Promised.{HasRoom}
 use Rattle.journal.specs.Changes.{cost}
 use Rattle.session.specs.declared.Standing.{Standing}
-use Rattle.session.specs.Session.{most_waiting}
 use Rattle.command.specs.declared.Command.{Command}
 use Rattle.plan.specs.declared.NewRecord.{NewRecord}
 use Rattle.plan.specs.declared.Change.{Change}
@@ -27,13 +26,10 @@ pub record WriteRecordAsks (card : Card) (h : Head) (r : NewRecord) (new : List 
 -- journal, whose used bytes are a 16-bit number, has room for its writes
 pub record PerformAsks (card : Card) (change : Change) («data» bytes : List ℕ) : Type 0 where
   pub fits : Fits (length card.table) (length card.files) (length «data») change
-  pub made : length bytes ≡ most_waiting
   pub short : length card.journal < 65536
   pub left : HasRoom card.journal (cost (writes_of change «data» bytes))
 
--- a command with `lc` data bytes may run on a card, for a script that stands at `s`, with `before` bytes of R-APDUs kept and `bytes` lent
--- for what it makes
-pub record RunCommandAsks (card : Card) (s : Standing) (c : Command) (lc before : ℕ) (bytes : List ℕ) : Type 0 where
+-- a command with `lc` data bytes may run on a card, for a script that stands at `s`, with `before` bytes of R-APDUs kept
+pub record RunCommandAsks (card : Card) (s : Standing) (c : Command) (lc before : ℕ) : Type 0 where
   pub ready : DecideAsks card s c lc
   pub kept : before ≤ most_kept
-  pub made : length bytes ≡ most_waiting

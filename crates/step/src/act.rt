@@ -2,7 +2,7 @@
 ghost use Rattle.std.specs.Prelude.{◌≡◌, ◌+◌, ◌<◌, length};
 ghost use Rattle.card.specs.Lent.{StaysLent, held};
 ghost use Rattle.journal.specs.Changes as changes;
-ghost use Rattle.session.specs.Session.{most_waiting, session_of};
+ghost use Rattle.session.specs.Session.{session_of};
 ghost use Rattle.step.specs.Steps.{carried_out, moved_to};
 ghost use Rattle.plan.specs.Promised.{record_writes, writes_of, plan_of};
 ghost use Rattle.step.specs.Promised.{WriteRecordAsks, PerformAsks};
@@ -46,7 +46,7 @@ fn write_record(card: &mut LentCard<'_>, head: Head, r: NewRecord, new: &[u8])
 }
 
 // Does a change, with the command's data and what it made.
-pub fn perform(change: Change, data: &[u8], made: &[u8], card: &mut LentCard<'_>)
+pub fn perform(change: Change, data: &[u8], made: &[u8; 255], card: &mut LentCard<'_>)
     requires { PerformAsks (held card.old) change «data».now made.now }
     ensures performed { held card.new ≡ changes.perform (writes_of change «data».now made.now) (held card.old) }
     ensures stays { StaysLent card.old card.new }
@@ -103,11 +103,11 @@ pub fn carry_out(
     d: Decision,
     count: usize,
     data: &[u8],
-    made: &[u8],
-    waiting: &mut [u8],
+    made: &[u8; 255],
+    waiting: &mut [u8; 255],
     card: &mut LentCard<'_>,
 ) -> Done
-    requires { PerformAsks (held card.old) d.change «data».now made.now × (length waiting.old ≡ most_waiting) × (count < 65535) }
+    requires { PerformAsks (held card.old) d.change «data».now made.now × (count < 65535) }
     ensures done { (moved_to (session_of result.standing waiting.new) result.outcome (held card.new)
         ≡ carried_out (plan_of d «data».now made.now) waiting.old (held card.old))
         × (result.count ≡ count + 1) }

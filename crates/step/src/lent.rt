@@ -36,10 +36,10 @@ pub fn step(
     count: usize,
     kept: usize,
     counts: bool,
-    made: &mut [u8],
+    made: &mut [u8; 255],
     card: &mut LentCard<'_>,
 ) -> Ended
-    requires { spec.RunCommandAsks (held card.old) session.old.standing asked.command (length asked.«data».now) kept made.old × (count < 65535) }
+    requires { spec.RunCommandAsks (held card.old) session.old.standing asked.command (length asked.«data».now) kept × (count < 65535) }
     ensures ran { (moved_to session.new result.outcome (held card.new)
         ≡ commanded asked.entry.format asked.entry.domain asked.entry.command asked.entry.«data».now session.old kept counts (held card.old))
         × (result.count ≡ count + 1) }

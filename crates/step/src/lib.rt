@@ -8,7 +8,7 @@ pub mod read;
 
 ghost use Rattle.std.specs.Prelude.{◌≡◌, ◌+◌, ◌<◌, length};
 ghost use Rattle.card.specs.Lent.{StaysLent, held};
-ghost use Rattle.session.specs.Session.{most_waiting, session_of};
+ghost use Rattle.session.specs.Session.{session_of};
 ghost use Rattle.step.specs.Steps.{moved_to, commanded};
 ghost use Rattle.step.specs.Promised as spec;
 
@@ -28,11 +28,11 @@ fn run_command(
     count: usize,
     kept: usize,
     counts: bool,
-    made: &mut [u8],
-    waiting: &mut [u8],
+    made: &mut [u8; 255],
+    waiting: &mut [u8; 255],
     card: &mut LentCard<'_>,
 ) -> Done
-    requires { spec.RunCommandAsks (held card.old) s asked.command (length asked.«data».now) kept made.old × (length waiting.old ≡ most_waiting) × (count < 65535) }
+    requires { spec.RunCommandAsks (held card.old) s asked.command (length asked.«data».now) kept × (count < 65535) }
     ensures ran { (moved_to (session_of result.standing waiting.new) result.outcome (held card.new)
         ≡ commanded asked.entry.format asked.entry.domain asked.entry.command asked.entry.«data».now (session_of s waiting.old) kept counts (held card.old))
         × (result.count ≡ count + 1) }

@@ -11,12 +11,11 @@ use Rattle.plan.specs.Ends.{Plan}
 use Rattle.plan.specs.Promised.{plan_of}
 use Rattle.step.specs.Steps.{carried_out}
 use Rattle.step.proofs.Limited.{decided-few}
-use borrow.Author.Rules.{rules}
 use Rattle.step.proofs.run_command.Goals as goal
 
 pub decide-d-requires : goal.decide-d-requires
 decide-d-requires c =
-    (c.requires.0.ready, c.requires.0.made)
+    c.requires.0.ready
 
 pub limited-requires : goal.limited-requires
 limited-requires c =
@@ -30,12 +29,10 @@ carry_out-requires c =
     let whole : length c.args.card.now.journal.now ≡ journal_length = (card_parts (held c.args.card.now) c.requires.0.ready.sound).size in (
       record {
         fits = d.fits;
-        made = search rules;
         short = omega arith;
         left = subst (λ (p : Plan). HasRoom c.args.card.now.journal.now (cost p.writes)) (sym d.same) d.journal;
       },
       c.requires.1,
-      c.requires.2,
     )
 
 pub returns-clause-ran : goal.returns-clause-ran

@@ -44,7 +44,6 @@ unfolding started
 loop-at-init c =
     record {
       going = begins c.requires.0 (λ i. record { session = c.start-session.ensures i; outcome = (c.not_begun-ended.ensures i).outcome; count = (c.not_begun-ended.ensures i).count });
-      made = c.requires.2;
       stays = stays _;
     }
 
@@ -59,7 +58,6 @@ step-ended-requires c =
           bytes = few_data c.args.script.now c.next_reading-reading.result.command c.next_reading-reading.result.from c.next_reading-reading.result.size c.data_of.ensures c.next_reading-reading.ensures.1.bytes;
         };
         kept = omega arith;
-        made = c.loop-at.invariant.made;
       },
       omega arith,
     )
@@ -95,7 +93,6 @@ loop-at-preserved c =
     let read = c.next_reading-reading.ensures in
     record {
       going = rw c.next_place-at.ensures (moves c.loop-at.invariant.going c.loop-at-test.true (did c) read.0 read.1);
-      made = c.step-ended.auto.made ∙ c.loop-at.invariant.made;
       stays = stays_on c.loop-at.invariant.stays c.step-ended.ensures.stays;
     }
 

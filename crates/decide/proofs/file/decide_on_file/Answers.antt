@@ -1,5 +1,4 @@
 -- `decide::file::decide_on_file` meets its contract: what is decided but for the journal's room, and then with it. Assumes nothing.
-use mathlib.Core.Path.{◌∙◌}
 use native.Mathlib.Omega.{arith}
 use Rattle.journal.proofs.Pushed.{own_used}
 use Rattle.decide.proofs.Costs.{fits-brief}
@@ -13,7 +12,7 @@ pub room_of-room-requires : goal.room_of-room-requires
 room_of-room-requires g c = let h = (journal_parts c.requires.0).size in omega arith
 
 pub file_command-d-requires : goal.file_command-d-requires
-file_command-d-requires g c = let p = c.requires in (able p.0, p.1, p.2, p.3)
+file_command-d-requires g c = let p = c.requires in (able p.0, p.1, p.2)
 
 pub with_room-requires : goal.with_room-requires
 with_room-requires g c =
@@ -28,4 +27,4 @@ pub returns : goal.returns
 returns g c =
     let a = c.args.a in
     let p = c.requires in
-    room-decided a.asked.format a.asked.domain a.asked.command a.asked.«data».now a.session a.table.now a.files.now a.journal.now _ p.0 p.1 p.2 (own_used _ c.head_of-used.ensures.0) c.room_of-room.ensures (c.file_command-d.auto.made ∙ p.3) c.file_command-d.ensures c.with_room.ensures
+    room-decided a.asked.format a.asked.domain a.asked.command a.asked.«data».now a.session a.table.now a.files.now a.journal.now _ p.0 p.1 p.2 (own_used _ c.head_of-used.ensures.0) c.room_of-room.ensures (omega arith) c.file_command-d.ensures c.with_room.ensures

@@ -86,7 +86,7 @@ search_records-requires g c =
     let i = c.requires.1 ∙ c.in-162.is in
     let known = check_passed c.args.a.asked.«data».now c.target_row-r.ensures c.file_check.ensures c.in_default-file_check.is c.requires.0 in
     let n = has_named known (rw i) (rw i) in
-    (i, record { file = of_records known (rw i); first = n.first; last = n.last; made = c.requires.3 })
+    (i, record { file = of_records known (rw i); first = n.first; last = n.last })
 
 pub returns-in-162 : goal.returns-in-162
 unfolding situation file_at done_by pick
@@ -100,7 +100,7 @@ pub increase-requires : goal.increase-requires
 increase-requires g c =
     let known = check_passed c.args.a.asked.«data».now c.target_row-r.ensures c.file_check.ensures c.in_default-file_check.is c.requires.0 in
     let n = to_sum known (c.requires.1 ∙ c.in-50.is) in
-    record { file = n.0; short = n.1; fits = n.2; made = c.requires.3 }
+    record { file = n.0; short = n.1; fits = n.2 }
 
 pub returns-in-50 : goal.returns-in-50
 unfolding situation file_at done_by pick

@@ -10,18 +10,13 @@ use lib.ListN.{length}
 use Rattle.octets.specs.Bytes.{overwrite}
 use Rattle.tlv.specs.Lengths.{length_bytes}
 use Rattle.tlv.proofs.Written.{length_some}
+use Rattle.command.specs.declared.Outcome.{Outcome}
 use Rattle.command.specs.Outcomes.{data_of, data_count}
 use Rattle.command.proofs.Outgoing.{data_length_lem, data_few}
 use Rattle.step.specs.Limits.{rapdu_size}
 use Rattle.expanded.specs.Expanded.{rapdu}
 use Rattle.expanded.proofs.Written.{rapdu-written}
 use Rattle.expanded.proofs.answer.put_rapdu.Goals as goal
-use Rattle.expanded.proofs.answer.put_rapdu.Lts as lts
-use Rattle.expanded.proofs.answer.put_rapdu.Reads as reads
-use Rattle.expanded.proofs.answer.put_rapdu.Tie as tie
-
-abbrev After-put_length : Type 0
-After-put_length = lts.After-put_length tie.the-claims reads.Pre reads.Post
 
 pub fill-requires : goal.fill-requires
 unfolding rapdu_size
@@ -39,25 +34,23 @@ put_length-from-requires c =
     (omega arith, omega arith)
 
 -- where the data begin
-from : (k : After-put_length)
-    → k.put_length-from.result ≡ k.args.at + 1 + length (length_bytes (data_count k.args.o + 2))
-from k =
-    let n : k.data_count.result ≡ data_count k.args.o = k.data_count.ensures in
-    rw n at k.put_length-from.ensures.1
+from : (o : Outcome) (at : ℕ) {n place : ℕ} → n ≡ data_count o → place ≡ at + 1 + length (length_bytes (n + 2))
+    → place ≡ at + 1 + length (length_bytes (data_count o + 2))
+from o at n there = rw n at there
 
 pub put_data-end-requires : goal.put_data-end-requires
 unfolding rapdu_size
 put_data-end-requires c =
-    (c.requires.0, c.requires.1, omega (arith, from c.before.before.before.before))
+    (c.requires.0, omega (arith, from c.args.o c.args.at c.data_count.ensures c.put_length-from.ensures.1))
 
 pub put_num-requires : goal.put_num-requires
 unfolding rapdu_size
 put_num-requires c =
-    omega (arith, from c.before.before.before.before.before.before.before.before.before)
+    omega (arith, from c.args.o c.args.at c.data_count.ensures c.put_length-from.ensures.1)
 
 pub overflow_add-result : goal.overflow_add-result
 unfolding rapdu_size
-overflow_add-result c = omega (arith, from c.before.before.before.before.before.before.before.before.before.before.before.before)
+overflow_add-result c = omega (arith, from c.args.o c.args.at c.data_count.ensures c.put_length-from.ensures.1)
 
 pub returns : goal.returns
 returns c =
@@ -65,6 +58,6 @@ returns c =
     let m = c.args.out.now in
     let d = data_of o c.args.files.now c.args.waiting.now in
     let n : c.data_count.result ≡ data_count o = c.data_count.ensures in
-    let h = rapdu-written m c.args.at d c.word_of.result (sym (data_length_lem o c.args.files.now c.args.waiting.now c.requires.0 c.requires.1)) c.requires.2
-    c.fill.ensures (rw n at c.put_length-from.ensures.0) (from c.before.before.before.before.before.before.before.before.before.before.before.before) c.put_data-end.ensures.0 c.put_data-end.ensures.1 c.put_num.ensures in
+    let h = rapdu-written m c.args.at d c.word_of.result (sym (data_length_lem o c.args.files.now c.args.waiting.now c.requires.0 (omega arith))) c.requires.1
+    c.fill.ensures (rw n at c.put_length-from.ensures.0) (from o c.args.at c.data_count.ensures c.put_length-from.ensures.1) c.put_data-end.ensures.0 c.put_data-end.ensures.1 c.put_num.ensures in
     (h.0 ∙ ap (λ (w : ℕ). overwrite m c.args.at (rapdu d w)) c.word_of.ensures, h.1)

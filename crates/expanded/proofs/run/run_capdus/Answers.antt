@@ -20,12 +20,12 @@ whole : (script : List ℕ) (start size : ℕ) → start + size ≤ length scrip
 whole script start size inside there = rw there (part_length script start size inside)
 
 pub start-session-requires : goal.start-session-requires
-start-session-requires c = omega (arith, starts-small _ _ c.requires.0.starts)
+start-session-requires c = omega (arith, starts-small _ _ c.requires.starts)
 
 pub loop-from-init : goal.loop-from-init
 unfolding started
 loop-from-init c =
-    let asked = c.requires.0 in
+    let asked = c.requires in
     let card = held c.args.card.now in
     let step = step_of c.start-session.result c.not_begun-ended.result in
     record {
@@ -33,33 +33,32 @@ loop-from-init c =
           subst (λ (r : Rapdus). Going c.args.script.now c.args.definite c.args.at c.args.end c.args.application c.args.domain card card c.args.out.now (gathered_of step r) c.args.at) (sym c.none_gathered-rapdus.ensures)
           (begins asked.ahead asked.inside asked.starts (λ i. record { session = c.start-session.ensures i; outcome = (c.not_begun-ended.ensures i).outcome; count = (c.not_begun-ended.ensures i).count }));
       long = refl;
-      made = c.requires.1;
       stays = stays _;
     }
 
 pub capdu-capdu-requires : goal.capdu-capdu-requires
-capdu-capdu-requires c = omega (arith, (capdu_lies c.next_item.ensures.1 c.in-Capdu.is).1, c.requires.0.inside)
+capdu-capdu-requires c = omega (arith, (capdu_lies c.next_item.ensures.1 c.in-Capdu.is).1, c.requires.inside)
 
 pub next_item-requires : goal.next_item-requires
-next_item-requires c = (c.loop-from.invariant.going.inside, c.requires.0.inside)
+next_item-requires c = (c.loop-from.invariant.going.inside, c.requires.inside)
 
 pub command_of-reading-requires : goal.command_of-reading-requires
 command_of-reading-requires c =
     let lies = capdu_lies c.next_item.ensures.1 c.in-Capdu.is in
-    omega (arith, lies.2, whole c.args.script.now c.in-Capdu.from c.in-Capdu.size (omega (arith, lies.1, c.requires.0.inside)) c.capdu-capdu.ensures)
+    omega (arith, lies.2, whole c.args.script.now c.in-Capdu.from c.in-Capdu.size (omega (arith, lies.1, c.requires.inside)) c.capdu-capdu.ensures)
 
 pub step-ended-requires : goal.step-ended-requires
 step-ended-requires c =
     let t = c.loop-from.invariant in
     let read = c.command_of-reading.ensures in
-    asks t.going (sym c.next_item.ensures.0 ∙ c.in-Capdu.is) (capdu_lies c.next_item.ensures.1 c.in-Capdu.is) c.capdu-capdu.ensures read.0 read.1 c.data_of.ensures c.requires.0.inside c.requires.0.short t.made
+    asks t.going (sym c.next_item.ensures.0 ∙ c.in-Capdu.is) (capdu_lies c.next_item.ensures.1 c.in-Capdu.is) c.capdu-capdu.ensures read.0 read.1 c.data_of.ensures c.requires.inside c.requires.short
 
 pub gather-rapdus-requires : goal.gather-rapdus-requires
 gather-rapdus-requires c =
     let t = c.loop-from.invariant in
     let read = c.command_of-reading.ensures in
     let did = c.step-ended.ensures.ran in
-    gather_asks t.going (sym c.next_item.ensures.0 ∙ c.in-Capdu.is) (capdu_lies c.next_item.ensures.1 c.in-Capdu.is) c.capdu-capdu.ensures read.0 read.1 c.data_of.ensures (t.long ∙ c.requires.0.room) c.keeps-counts.ensures did.0 did.1
+    gather_asks t.going (sym c.next_item.ensures.0 ∙ c.in-Capdu.is) (capdu_lies c.next_item.ensures.1 c.in-Capdu.is) c.capdu-capdu.ensures read.0 read.1 c.data_of.ensures (t.long ∙ c.requires.room) c.keeps-counts.ensures did.0 did.1
 
 pub overflow_add-from : goal.overflow_add-from
 overflow_add-from c = omega (arith, (capdu_lies c.next_item.ensures.1 c.in-Capdu.is).1)
@@ -82,8 +81,7 @@ loop-from-preserved c =
     record {
       going =
           rw c.next_place-place.ensures
-          (goes_on_lem t.going (sym c.next_item.ensures.0 ∙ c.in-Capdu.is) (capdu_lies c.next_item.ensures.1 c.in-Capdu.is) c.capdu-capdu.ensures read.0 read.1 c.data_of.ensures (t.long ∙ c.requires.0.room) c.keeps-counts.ensures did.0 did.1 g.0 g.1 g.2);
+          (goes_on_lem t.going (sym c.next_item.ensures.0 ∙ c.in-Capdu.is) (capdu_lies c.next_item.ensures.1 c.in-Capdu.is) c.capdu-capdu.ensures read.0 read.1 c.data_of.ensures (t.long ∙ c.requires.room) c.keeps-counts.ensures did.0 did.1 g.0 g.1 g.2);
       long = c.gather-rapdus.auto.out ∙ t.long;
-      made = c.step-ended.auto.made ∙ t.made;
       stays = stays_on t.stays c.step-ended.ensures.stays;
     }

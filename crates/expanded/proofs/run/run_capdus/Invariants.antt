@@ -2,7 +2,6 @@
 -- left of the value.
 use Rattle.std.proofs.Common.{◌≡◌, ◌-◌, length}
 use Rattle.card.specs.Lent.{StaysLent, held}
-use Rattle.session.specs.Session.{most_waiting}
 use Rattle.step.proofs.Moved.{step_of}
 use Rattle.expanded.specs.Expanded.{gathered_of}
 use Rattle.expanded.proofs.Going.{Going}
@@ -13,7 +12,6 @@ invariant-loop-from l =
     record {
       going : Going l.script l.definite l.at l.end l.application l.domain (held l.initial.card) (held l.card) l.out (gathered_of (step_of l.session l.ended) l.rapdus) l.place;
       long : length l.out ≡ length l.initial.out;
-      made : length l.made ≡ most_waiting;
       stays : StaysLent l.initial.card l.card;
     }
 

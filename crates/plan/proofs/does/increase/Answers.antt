@@ -42,7 +42,7 @@ returns c =
       λ f row entry content.
           let h = raised {s = a.s} c.record_offset.ensures p.file.inside row entry content in
           let out = bytes_of f.row.record_length (sum f.row f.content a.«data».now) ++ a.«data».now in
-          let e = new-bytes h a.«data».now a.made.now p.made (omega (arith, p.short, p.fits)) sum-made.1 c.copy.ensures in
+          let e = new-bytes h a.«data».now a.made.now (omega arith) (omega (arith, p.short, p.fits)) sum-made.1 c.copy.ensures in
           sum_done h a.«data».now sum-made.0 c.if-carry-ne0.false
           (c.produced.ensures.0 a.«data».now _ out a.made.now e (new-size h a.«data».now)
           ∙ (λ i. produced a.format (c.at_record-next.ensures i) normal out (writes_of (SumRecord (record-made i)) a.«data».now (e i)))

@@ -44,8 +44,9 @@ returns-then-n-eq0 c =
 pub produced-requires : goal.produced-requires
 produced-requires c =
     let a = c.args in
-    let l : length (found a.files.now a.r a.c a.«data».now c.record_of-number.result) ≤ length a.made.now = write-short _ _ (sym (ap length c.search-n.ensures.0) ∙ c.search-n.auto.out) in
-    (omega (arith, c.search-n.ensures.1, c.requires.1.made), omega arith)
+    let same : length c.search-n.new.out ≡ length a.made.now = omega arith in
+    let l : length (found a.files.now a.r a.c a.«data».now c.record_of-number.result) ≤ length a.made.now = write-short _ _ (sym (ap length c.search-n.ensures.0) ∙ same) in
+    (omega (arith, c.search-n.ensures.1), omega arith)
 
 pub returns : goal.returns
 unfolding writes_of

@@ -4,7 +4,7 @@
 -- they leave is one write (`one-write`, `table-write`) or the two of a record, and `steps` goes back from the writes of the known
 -- change to those of the one that was asked for. A sum is the first bytes of what was made, which are as many as a record has
 -- (`sum_long`). Assumes nothing.
-use mathlib.Core.Path.{◌≡◌, refl, sym}
+use mathlib.Core.Path.{◌≡◌, refl}
 use mathlib.Core.List.{List}
 use Prim.Native.Nat.{ℕ, ◌+◌}
 use native.Mathlib.Omega.{arith}
@@ -20,6 +20,7 @@ use Rattle.plan.specs.Promised.{writes_of, Fits}
 use Rattle.plan.specs.declared.NewRecord.{NewRecord}
 use Rattle.plan.specs.declared.Change.{Change}
 use Rattle.plan.specs.declared.Change.TheVariants.{SumRecord}
+use Rattle.session.specs.Session.{most_waiting}
 use Rattle.step.specs.Promised.{PerformAsks}
 use Rattle.step.proofs.Acts.{known_fits, known_left, known_steps, one-write, table-write}
 use Rattle.step.proofs.act.perform.Goals as goal
@@ -36,9 +37,9 @@ module _ {k : Card} {change other : Change} {«data» made : List ℕ} (asks : P
   steps = known_steps same «data» made k
 
 -- a sum stands at the start of what was made
-sum_long : {k : Card} {change : Change} {«data» made : List ℕ} → PerformAsks k change «data» made → (r : NewRecord) → change ≡ SumRecord r → length (take r.record_length made) ≡ r.record_length
+sum_long : {k : Card} {change : Change} {«data» made : List ℕ} → PerformAsks k change «data» made → length made ≡ most_waiting → (r : NewRecord) → change ≡ SumRecord r → length (take r.record_length made) ≡ r.record_length
 unfolding Fits
-sum_long {made = made} asks r same = length-take-le r.record_length made (omega (arith, (fits asks same).1, asks.made))
+sum_long {made = made} asks whole r same = length-take-le r.record_length made (omega (arith, (fits asks same).1, whole))
 
 pub head_of-head-requires : goal.head_of-head-requires
 head_of-head-requires c = let h = c.requires.left in omega arith
@@ -56,14 +57,15 @@ write_record-requires c =
     let f = fits c.requires c.in-DataRecord.is in
     record { fits = f.0; whole = f.1; head = c.head_of-head.ensures.0; short = omega (arith, c.requires.short); left = left c.requires c.in-DataRecord.is }
 
-pub slice_bounds-write_record-end : goal.slice_bounds-write_record-end
-slice_bounds-write_record-end c = sym (sum_long c.requires c.in-SumRecord.r c.in-SumRecord.is)
+pub shared_ref_as_front-write_record : goal.shared_ref_as_front-write_record
+unfolding Fits
+shared_ref_as_front-write_record c = (fits c.requires c.in-SumRecord.is).1
 
 pub write_record-requires-in-SumRecord : goal.write_record-requires-in-SumRecord
 unfolding Fits writes_of
 write_record-requires-in-SumRecord c =
     let same = c.in-SumRecord.is in
-    record { fits = (fits c.requires same).0; whole = sum_long c.requires c.in-SumRecord.r same; head = c.head_of-head.ensures.0; short = omega (arith, c.requires.short); left = left c.requires same }
+    record { fits = (fits c.requires same).0; whole = sum_long c.requires (omega arith) c.in-SumRecord.r same; head = c.head_of-head.ensures.0; short = omega (arith, c.requires.short); left = left c.requires same }
 
 pub overflow_cast-byte : goal.overflow_cast-byte
 unfolding Fits
