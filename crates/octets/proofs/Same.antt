@@ -1,22 +1,24 @@
--- What the comparisons of runs of bytes tell: of bytes that are gathered or compared pairwise, as the library does, and of the places
--- where a run may stand in another. Assumes nothing.
+-- What the comparisons of runs of bytes tell, and how each goes on by one byte.
+-- The loops that compare keep one equation: the whole test is what was found so far, and the test of what is left. A step takes the
+-- first byte off what is left (`zero_more`, `part_more`), and at the end nothing is left (`zero_ends`, `starts_ends`). A comparison
+-- in pieces goes on while the pieces are the same; the last piece may begin before the bytes that are left, since those it shares
+-- with earlier pieces were found the same already (`piece_last`). A search goes on by one place while the run does not begin there
+-- (`contains-goes_on`). Assumes nothing.
 use mathlib.Core.Path.{◌≡◌, refl, sym, ap, ◌∙◌}
-use mathlib.Core.Bool.{Bool, true, false, ◌&&◌, or-true, and-false, false≢true, and_assoc, and-true}
-use mathlib.Core.List.{List, [], ◌∷◌}
-use mathlib.Core.Logic.{⊎_elim}
+use mathlib.Core.Bool.{Bool, true, false, ◌&&◌, and-false, false≢true, and_assoc, and-true}
+use mathlib.Core.List.{List, [], ◌∷◌, ◌++◌}
 use Prim.Native.Nat.{ℕ, zero, suc, ◌+◌, ◌-◌, ◌≤◌, ◌<◌}
-use native.Mathlib.Nat.{add-sub_of_le}
+use native.Mathlib.Nat.{add_assoc, add-zero, zero-add, add-sub_of_le, le_of_suc-le-suc, not-suc-le-zero}
 use native.Mathlib.Numerals.{add-one}
 use native.Mathlib.Omega.{arith}
 use lib.Dec.{eqb}
-use lib.ListN.{length, take, drop, drop_of_length-le, length-drop}
-use lib.Seq.{drop-cons, drop-nil, drop-drop}
-use lib.Pointwise.{pointwise}
-use borrow.Author.Tests.{eqb-true, eq-eqb, ne_eqb}
-use Rattle.std.proofs.lemmas.Bool.Decides.{leb_tells}
+use lib.ListN.{length, take, drop, drop_of_length-le, length-drop, take-append-drop}
+use lib.Seq.{drop-cons, drop-drop, take_all}
+use borrow.Author.Tests.{eqb-true, eq-eqb}
 use Rattle.octets.specs.Bytes.{byte, part, zeros, all_zero, same, starts_with, contains}
-use Rattle.octets.proofs.Writes.{part_cut}
-use Rattle.octets.proofs.Picks.{and_left, and_right, and_both}
+use Rattle.octets.proofs.Picks.{and_left, and_right, and_both, refuted}
+use Rattle.octets.proofs.Writes.{part_length}
+use Rattle.octets.proofs.Numbers.{byte-part}
 
 pub same_true : (a b : List ℕ) → same a b ≡ true → a ≡ b
 unfolding same
@@ -29,64 +31,6 @@ pub same_refl : (a : List ℕ) → same a a ≡ true
 unfolding same
 same_refl [] = refl
 same_refl (x ∷ a) = and_both (eqb x x) (same a a) (eq-eqb x x refl) (same_refl a)
-
--- the same run, as the library compares: byte by byte, and piece by piece
-pub same_pairs : (a b : List ℕ) → pointwise eqb a b ≡ same a b
-unfolding same
-same_pairs [] [] = refl
-same_pairs [] (y ∷ b) = refl
-same_pairs (x ∷ a) [] = refl
-same_pairs (x ∷ a) (y ∷ b) = ap (λ (t : Bool). eqb x y && t) (same_pairs a b)
-
-same_cut : (n : ℕ) (a b : List ℕ) → same a b ≡ (same (take n a) (take n b) && same (drop n a) (drop n b))
-unfolding same
-same_cut zero a b = refl
-same_cut (suc n) [] [] = refl
-same_cut (suc n) [] (y ∷ b) = refl
-same_cut (suc n) (x ∷ a) [] = refl
-same_cut (suc n) (x ∷ a) (y ∷ b) = ap (λ (t : Bool). eqb x y && t) (same_cut n a b) ∙ sym (and_assoc (eqb x y) (same (take n a) (take n b)) (same (drop n a) (drop n b)))
-
--- piece by piece: the first n bytes tell, or what is behind them does; of no more than two pieces the first n and the last n tell
-module _ (n : ℕ) (a b : List ℕ) where
-  pub piece_differs : same (take n a) (take n b) ≡ false → false ≡ same a b
-  piece_differs e = sym (same_cut n a b ∙ rw e)
-
-  pub piece_same : same (take n a) (take n b) ≡ true → same a b ≡ same (drop n a) (drop n b)
-  piece_same e = same_cut n a b ∙ rw e
-
-  pub piece_last : (last : ℕ) → last ≤ n → same (take n a) (take n b) ≡ true → same (drop last a) (drop last b) ≡ same a b
-  piece_last last h e =
-      let k : last + (n - last) ≡ n = add-sub_of_le h in
-      let f : part a last (n - last) ≡ part b last (n - last) =
-      part_cut last (n - last) a ∙ rw k (ap (drop last) (same_true (take n a) (take n b) e)) ∙ sym (part_cut last (n - last) b) in
-      same_cut (n - last) (drop last a) (drop last b) ∙ rw (f, same_refl (part b last (n - last)), drop-drop (n - last) last a, drop-drop (n - last) last b, k) (sym (piece_same e))
-
--- pair by pair: what was found so far, and what is left of the runs
-pub same_next : {t : Bool} (found : Bool) {x y : ℕ} {a b more left : List ℕ} → a ≡ x ∷ more → b ≡ y ∷ left → (length a ≡ length b) × (t ≡ (found && same a b)) → (length more ≡ length left) × (t ≡ ((found && eqb x y) && same more left))
-unfolding same
-same_next found {x = x} {y = y} {more = more} {left = left} e f h =
-    let l : length (x ∷ more) ≡ length (y ∷ left) = sym (ap length e) ∙ h.0 ∙ ap length f in
-    (omega (arith, l), h.1 ∙ rw (e, f) (sym (and_assoc found (eqb x y) (same more left))))
-
-pub same_ends : {t : Bool} (found : Bool) (a b : List ℕ) → length a ≡ 0 → (length a ≡ length b) × (t ≡ (found && same a b)) → found ≡ t
-unfolding same
-same_ends found [] [] e h = sym (h.1 ∙ and-true found)
-same_ends found [] (y ∷ b) e h = absurd (omega (arith, h.0))
-same_ends found (x ∷ a) b e h = absurd (omega (arith, e))
-
--- the first bytes tell of two runs that are not the same, and two empty ones are
-pub same_empty : (a b : List ℕ) → length a ≡ length b → length b ≡ 0 → true ≡ same a b
-unfolding same
-same_empty [] [] h e = refl
-same_empty [] (y ∷ b) h e = absurd (omega arith)
-same_empty (x ∷ a) b h e = absurd (omega arith)
-
-pub same_differs : (a b : List ℕ) → (byte a 0 ≡ byte b 0 → ⊥) → false ≡ same a b
-unfolding same
-same_differs [] [] h = absurd (h refl)
-same_differs [] (y ∷ b) h = refl
-same_differs (x ∷ a) [] h = refl
-same_differs (x ∷ a) (y ∷ b) h = rw (ne_eqb x y h)
 
 pub zero-true : (m : List ℕ) → all_zero m ≡ true → m ≡ zeros (length m)
 unfolding all_zero
@@ -107,12 +51,60 @@ pub zero_ends : (found : Bool) (m : List ℕ) (i : ℕ) → length m ≤ i → (
 unfolding all_zero
 zero_ends found m i h = rw (drop_of_length-le m h) (and-true found)
 
--- a run begins with another where its first bytes are that one
-pub starts_same : (m d : List ℕ) → same (take (length d) m) d ≡ starts_with m d
-unfolding starts_with same
-starts_same m [] = refl
-starts_same [] (y ∷ d) = refl
-starts_same (x ∷ m) (y ∷ d) = ap (λ (b : Bool). eqb x y && b) (starts_same m d)
+-- a comparison, gathered the same way, with the n bytes of a run from one of its places on
+module _ {t : Bool} (found : Bool) (m d : List ℕ) (j i : ℕ) (left : t ≡ (found && starts_with (drop j m) (drop i d))) where
+  starts_more : j < length m → i < length d → t ≡ ((found && eqb (byte m j) (byte d i)) && starts_with (drop (j + 1) m) (drop (i + 1) d))
+  unfolding starts_with
+  starts_more h g =
+      left
+      ∙ (rw (add-one j, add-one i, drop-cons m j 0 h, drop-cons d i 0 g) (sym (and_assoc found (eqb (byte m j) (byte d i)) (starts_with (drop (suc j) m) (drop (suc i) d)))))
+
+  pub starts_ends : length d ≤ i → found ≡ t
+  unfolding starts_with
+  starts_ends h = sym (left ∙ (rw (drop_of_length-le d h) (and-true found)))
+
+pub part_more : {t : Bool} (found : Bool) (m d : List ℕ) (at from n i : ℕ) → t ≡ (found && starts_with (drop (at + i) m) (drop i (part d from n))) → at + i < length m → i < n → from + n ≤ length d
+    → t ≡ ((found && eqb (byte m (at + i)) (byte d (from + i))) && starts_with (drop (at + (i + 1)) m) (drop (i + 1) (part d from n)))
+part_more found m d at from n i left h g fits =
+    starts_more found m (part d from n) (at + i) i left h (omega (arith, part_length d from n fits)) ∙ rw (byte-part d from n i g, add_assoc at i 1)
+
+-- a run in two pieces stands where each of them does
+starts-split : (m a b : List ℕ) → starts_with m (a ++ b) ≡ (starts_with m a && starts_with (drop (length a) m) b)
+unfolding starts_with
+starts-split m [] b = refl
+starts-split [] (y ∷ a) b = refl
+starts-split (x ∷ m) (y ∷ a) b = ap (λ (t : Bool). eqb x y && t) (starts-split m a b) ∙ sym (and_assoc (eqb x y) (starts_with m a) (starts_with (drop (length a) m) b))
+
+starts_piece : (m d : List ℕ) (at i n : ℕ) → i + n ≤ length d → starts_with (drop (at + i) m) (drop i d) ≡ (starts_with (drop (at + i) m) (part d i n) && starts_with (drop (at + (i + n)) m) (drop (i + n) d))
+starts_piece m d at i n h =
+    ap (starts_with (drop (at + i) m)) (sym (take-append-drop n (drop i d)))
+    ∙ starts-split (drop (at + i) m) (part d i n) (drop n (drop i d))
+    ∙ rw (part_length d i n h, drop-drop n (at + i) m, drop-drop n i d, add_assoc at i n)
+
+-- a comparison piece by piece: the n bytes of the run from place i on, and at last those that end it
+module _ (m d : List ℕ) (at i n : ℕ) (left : starts_with (drop at m) d ≡ starts_with (drop (at + i) m) (drop i d)) where
+  pub piece_differs : i + n ≤ length d → starts_with (drop (at + i) m) (part d i n) ≡ false → false ≡ starts_with (drop at m) d
+  piece_differs h e = sym (left ∙ starts_piece m d at i n h ∙ rw e)
+
+  pub piece_same : i + n ≤ length d → starts_with (drop (at + i) m) (part d i n) ≡ true → starts_with (drop at m) d ≡ starts_with (drop (at + (i + n)) m) (drop (i + n) d)
+  piece_same h e = left ∙ starts_piece m d at i n h ∙ rw e
+
+  pub piece_last : (last : ℕ) → last + n ≡ length d → last ≤ i → i ≤ length d → starts_with (drop (at + last) m) (part d last n) ≡ starts_with (drop at m) d
+  piece_last last e h g =
+      between
+      (starts_with (drop at m) d)
+      (starts_with (drop at m) (take last d))
+      (starts_with (drop (at + last) m) (part d last n))
+      (starts_with (drop (at + last) m) (part d last (i - last)))
+      (ap (λ (k : ℕ). starts_with (drop k m) d) (sym (add-zero at)) ∙ starts_piece m d at 0 last (omega arith) ∙ rw (zero-add last, add-zero at, ends))
+      (rw ends (starts_piece m d at last (i - last) (omega arith) ∙ rw (add-sub_of_le h, ← left)))
+    where
+      ends : part d last n ≡ drop last d
+      ends = take_all n (drop last d) (simp length-drop (omega arith))
+
+      between : (t x b y : Bool) → t ≡ (x && b) → b ≡ (y && t) → b ≡ t
+      between t x false y p q = sym (p ∙ and-false x)
+      between t x true y p q = sym (and_right y t (sym q))
 
 -- a run that begins with another has its bytes first
 pub starts-true : (m d : List ℕ) → starts_with m d ≡ true → take (length d) m ≡ d
@@ -121,43 +113,51 @@ starts-true m [] h = refl
 starts-true [] (y ∷ d) h = absurd (false≢true h)
 starts-true (x ∷ m) (y ∷ d) h = λ i. eqb-true x y (and_left (eqb x y) (starts_with m d) h) i ∷ starts-true m d (and_right (eqb x y) (starts_with m d) h) i
 
--- none begins with a longer one
+-- so another first byte tells that it does not
+pub starts_differs : (m d : List ℕ) (at : ℕ) → 0 < length d → (byte m at ≡ byte d 0 → ⊥) → false ≡ starts_with (drop at m) d
+starts_differs m d at h e =
+    sym (refuted (starts_with (drop at m) d) (λ q. e (ap (byte m) (sym (add-zero at)) ∙ sym (byte-part m at (length d) 0 h) ∙ ap (λ (l : List ℕ). byte l 0) (starts-true (drop at m) d q))))
+
+-- every run begins with the empty one, and none with a longer one
+pub starts_empty : (m d : List ℕ) → length d ≡ 0 → true ≡ starts_with m d
+unfolding starts_with
+starts_empty m [] h = refl
+starts_empty m (y ∷ d) h = absurd (omega arith)
+
+pub starts-not : (m d : List ℕ) → starts_with m d ≡ false → 0 < length d
+unfolding starts_with
+starts-not m [] h = absurd (false≢true (sym h))
+starts-not m (y ∷ d) h = omega arith
+
 starts-short : (m d : List ℕ) → length m < length d → starts_with m d ≡ false
 unfolding starts_with
-starts-short m [] h = absurd (omega arith)
+starts-short m [] h = absurd (not-suc-le-zero h)
 starts-short [] (y ∷ d) h = refl
-starts-short (x ∷ m) (y ∷ d) h = rw (starts-short m d (omega arith)) (and-false (eqb x y))
+starts-short (x ∷ m) (y ∷ d) h = ap (λ (b : Bool). eqb x y && b) (starts-short m d (le_of_suc-le-suc h)) ∙ and-false (eqb x y)
 
-starts-past : (m d : List ℕ) (k : ℕ) → 0 < length d → length m < k + length d → starts_with (drop k m) d ≡ false
-starts-past m d k h g = starts-short (drop k m) d (simp length-drop (omega arith))
-
--- a run stands in another if it begins at one of its places, and not if it begins at none
-pub contains_empty : (m d : List ℕ) → length d ≡ 0 → contains m d ≡ true
-unfolding contains starts_with
-contains_empty [] [] h = refl
-contains_empty (x ∷ m) [] h = refl
-contains_empty m (y ∷ d) h = absurd (omega arith)
-
-contains_there : (m d : List ℕ) (k : ℕ) → starts_with (drop k m) d ≡ true → contains m d ≡ true
+-- a run stands in no shorter one; else it begins here or stands behind
+pub contains-short : (m d : List ℕ) → length m < length d → contains m d ≡ false
 unfolding contains
-contains_there [] d k e = rw drop-nil at e
-contains_there (x ∷ m) d zero e = rw e
-contains_there (x ∷ m) d (suc k) e = rw (contains_there m d k e) (or-true (starts_with (x ∷ m) d))
+contains-short [] d h = starts-short [] d h
+contains-short (x ∷ m) d h = rw (starts-short (x ∷ m) d h) (contains-short m d (omega arith))
 
-contains_none : (m d : List ℕ) → ((k : ℕ) → starts_with (drop k m) d ≡ false) → contains m d ≡ false
+contains-here : (m d : List ℕ) → starts_with m d ≡ true → contains m d ≡ true
 unfolding contains
-contains_none [] d h = h 0
-contains_none (x ∷ m) d h = rw (h 0) (contains_none m d (λ k. h (suc k)))
+contains-here [] d h = h
+contains-here (x ∷ m) d h = rw h
 
--- the answer of a search place by place, where the bytes of each place are compared
-pub contains_found : (m d : List ℕ) (found : Bool) → 0 < length d → (found ≡ true → (k : ℕ) × (k + length d ≤ length m) × (same (part m k (length d)) d ≡ true))
-    → (found ≡ false → (k b : ℕ) → byte m k ≡ b → k + length d ≤ length m → same (part m k (length d)) d ≡ false) → found ≡ contains m d
-contains_found m d true h there none =
-    let at = there refl in
-    sym (contains_there m d at.0 (sym (starts_same (drop at.0 m) d) ∙ at.2))
-contains_found m d false h there none =
-    sym (contains_none m d (λ k.
-    ⊎_elim
-    (λ w. sym (starts_same (drop k m) d) ∙ none refl k (byte m k) refl w.1)
-    (λ w. starts-past m d k h w.1)
-    (leb_tells (k + length d) (length m))))
+contains-tail : (m d : List ℕ) → starts_with m d ≡ false → contains m d ≡ contains (drop 1 m) d
+unfolding contains
+contains-tail [] d h = refl
+contains-tail (x ∷ m) d h = rw h
+
+-- a search place by place
+module _ {t : Bool} (m d : List ℕ) (i : ℕ) (left : t ≡ contains (drop i m) d) where
+  pub contains-found : starts_with (drop i m) d ≡ true → true ≡ t
+  contains-found h = sym (left ∙ contains-here (drop i m) d h)
+
+  pub contains-goes_on : starts_with (drop i m) d ≡ false → t ≡ contains (drop (i + 1) m) d
+  contains-goes_on h = left ∙ rw (← (drop-drop 1 i m)) (contains-tail (drop i m) d h)
+
+  pub contains_ends : length (drop i m) < length d → false ≡ t
+  contains_ends h = sym (left ∙ contains-short (drop i m) d h)

@@ -1,8 +1,8 @@
 // Bytes: big-endian numbers, writes into lent memory, and comparisons in place.
 #![tactic(auto)]
 
-ghost use Rattle.std.specs.Prelude.{◌≡◌, [], ◌∷◌, ◌++◌, ◌+◌, ◌≤◌, ◌<◌, length, replicate};
-ghost use Rattle.octets.specs.Bytes.{num_at, bytes2, overwrite, all_zero, same, contains};
+ghost use Rattle.std.specs.Prelude.{◌≡◌, [], ◌∷◌, ◌++◌, ◌+◌, ◌≤◌, ◌<◌, length, drop, replicate};
+ghost use Rattle.octets.specs.Bytes.{part, num_at, bytes2, overwrite, all_zero, starts_with, contains};
 
 // Returns a byte as a number.
 pub fn wide(b: u8) -> usize
@@ -76,56 +76,77 @@ pub fn all_zero(m: &[u8]) -> bool
     zero
 }
 
-// Returns whether two runs of one length are the same; all their bytes are compared, many at once.
-fn pairs_same(a: &[u8], b: &[u8]) -> bool
-    requires { length a.now ≡ length b.now }
-    ensures { result ≡ same a.now b.now }
+// The three functions below count their places: over windows and pieces of slices a search for 200 of 254 bytes takes 1.46 times the
+// instructions that the second program takes, with `==` one for 32 bytes 2.11 times; so it is 1.24, and 1.25 is the limit.
+
+// Returns whether the n bytes of `d` from the place `from` on stand in `m` at the place `at`; all of them are compared.
+fn same_part(m: &[u8], at: usize, d: &[u8], from: usize, n: usize) -> bool
+    requires { (at + n ≤ length m.now) × (from + n ≤ length d.now) }
+    ensures { result ≡ starts_with (drop at m.now) (part d.now from n) }
 {
     let mut same = true;
-    for (x, y) in a.iter().zip(b) {
-        same &= *x == *y;
+    let mut i: usize = 0;
+    while i < n {
+        same = same & (m[at + i] == d[from + i]);
+        i += 1;
     }
     same
 }
 
-// Returns whether two runs of one length are the same, compared `width` bytes at a time; at last come the final `width`.
-fn pieces_same(a: &[u8], b: &[u8], width: usize) -> bool
-    requires { (length a.now ≡ length b.now) × (0 < width) × (width ≤ length b.now) }
-    ensures { result ≡ same a.now b.now }
+// Returns whether the bytes of `m` from the place `at` on begin with `d`, compared `width` bytes at a time; at last come the final
+// `width` bytes of `d`.
+fn starts_by(m: &[u8], at: usize, d: &[u8], width: usize) -> bool
+    requires { (at + length d.now ≤ length m.now) × ((0 < width) × (width ≤ length d.now)) }
+    ensures { result ≡ starts_with (drop at m.now) d.now }
 {
-    let (one, more) = a.split_at(width);
-    let (other, left) = b.split_at(width);
-    if !pairs_same(one, other) {
-        return false;
+    let last = d.len() - width;
+    let mut i: usize = 0;
+    while i < last {
+        if !same_part(m, at + i, d, i, width) {
+            return false;
+        }
+        i += width;
     }
-    if left.len() > width {
-        return pieces_same(more, left, width);
-    }
-    let last = left.len();
-    pairs_same(&a[last..], &b[last..])
+    same_part(m, at + last, d, last, width)
 }
 
-// Returns whether two runs of one length are the same: most often the first byte tells. Long ones are compared in pieces, since with
-// `==` alone a search for 121 bytes takes up to twice the instructions that the second program takes, and 1.25 times is the limit.
-fn is_same(a: &[u8], b: &[u8]) -> bool
-    requires { length a.now ≡ length b.now }
-    ensures { result ≡ same a.now b.now }
+// Returns whether the bytes of `m` from the place `at` on begin with `d`: most often the first byte tells.
+fn starts_at(m: &[u8], at: usize, d: &[u8]) -> bool
+    requires { at + length d.now ≤ length m.now }
+    ensures { result ≡ starts_with (drop at m.now) d.now }
 {
-    if b.is_empty() {
+    if d.len() == 0 {
         return true;
     }
-    if a[0] != b[0] {
+    if m[at] != d[0] {
         return false;
     }
-    if b.len() >= 64 {
-        return pieces_same(a, b, 64);
+    if d.len() >= 32 {
+        return starts_by(m, at, d, 32);
     }
-    a == b
+    if d.len() >= 8 {
+        return starts_by(m, at, d, 8);
+    }
+    if d.len() >= 4 {
+        return starts_by(m, at, d, 4);
+    }
+    starts_by(m, at, d, 1)
 }
 
 // Returns whether `d` stands somewhere in `m`, in one piece; it is compared where it lies.
 pub fn within(m: &[u8], d: &[u8]) -> bool
     ensures { result ≡ contains m.now d.now }
 {
-    d.is_empty() || m.windows(d.len()).any(|part| is_same(part, d))
+    if m.len() < d.len() {
+        return false;
+    }
+    let last = m.len() - d.len();
+    let mut i: usize = 0;
+    while i <= last {
+        if starts_at(m, i, d) {
+            return true;
+        }
+        i += 1;
+    }
+    false
 }

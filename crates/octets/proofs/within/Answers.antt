@@ -1,21 +1,28 @@
--- `octets::within` meets its contract: the run is found where one of the windows equals it, and is not where none does. Assumes nothing.
-use mathlib.Core.Path.{◌≡◌, sym, ◌∙◌}
-use mathlib.Core.Bool.{true, false}
-use Prim.Native.Nat.{ℕ, ◌+◌, ◌≤◌}
+-- `octets::within` meets its contract. The loop's invariant: the run stands in the memory just where it stands in what is left from i on. Assumes nothing.
+use mathlib.Core.Path.{refl, sym, ◌∙◌}
 use native.Mathlib.Omega.{arith}
-use lib.ListN.{length}
-use Rattle.std.proofs.lemmas.Grind.{common_steps}
-use Rattle.octets.specs.Bytes.{byte, part, same}
-use Rattle.octets.proofs.Same.{contains_empty, contains_found}
+use lib.ListN.{length-drop}
+use Rattle.octets.proofs.Same.{starts-not, contains-short, contains-found, contains-goes_on, contains_ends}
 use Rattle.octets.proofs.within.Goals as goal
 
-pub returns-then-is_empty : goal.returns-then-is_empty
-returns-then-is_empty c = c.if-is_empty.true ∙ sym (contains_empty c.args.m.now c.args.d.now (grind (arith, common_steps)))
+pub returns-then-m-d : goal.returns-then-m-d
+returns-then-m-d c = sym (contains-short _ _ c.if-m-d.true)
 
-pub returns-else-is_empty : goal.returns-else-is_empty
-returns-else-is_empty c =
-    let m = c.args.m.now in
-    let d = c.args.d.now in
-    let there : c.any.result ≡ true → (k : ℕ) × (k + length d ≤ length m) × (same (part m k (length d)) d ≡ true) = grind (arith, common_steps) in
-    let none : c.any.result ≡ false → (k b : ℕ) → byte m k ≡ b → k + length d ≤ length m → same (part m k (length d)) d ≡ false = grind (arith, common_steps) in
-    contains_found m d c.any.result (grind (arith, common_steps)) there none
+pub loop-i-init : goal.loop-i-init
+loop-i-init c = (omega arith, refl)
+
+pub returns-then-starts_at : goal.returns-then-starts_at
+returns-then-starts_at c =
+    let l = c.loop-i in
+    contains-found c.args.m.now c.args.d.now l.i l.invariant.1 (sym c.starts_at.ensures ∙ c.if-starts_at.true)
+
+pub loop-i-preserved : goal.loop-i-preserved
+loop-i-preserved c =
+    let l = c.loop-i in
+    let no = sym c.starts_at.ensures ∙ c.if-starts_at.false in
+    (omega (arith, starts-not _ _ no), contains-goes_on c.args.m.now c.args.d.now l.i l.invariant.1 no)
+
+pub returns : goal.returns
+returns c =
+    let l = c.loop-i in
+    contains_ends c.args.m.now c.args.d.now l.i l.invariant.1 (simp length-drop (omega arith))
