@@ -116,7 +116,7 @@ answered_by-fits size definite count t (Ok last) fits signed =
       end = fits.0.inside;
       count = λ n two all. on_pick (λ (k : ℕ). k ≤ n) definite _ _ (λ ab. omega arith) (λ af. omega (arith, fits.0.inside, fits.0.seen));
     }
-answered_by-fits size definite count t (Err place) fits signed = fits
+answered_by-fits size definite count t (Err place) fits signed = fits.1
 
 module _ (answer : List ℕ) (bytes : AllBytes answer) where
   -- the results, from a place in the answer on

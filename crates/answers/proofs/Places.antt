@@ -217,15 +217,15 @@ module _ (size : ℕ) (t : Turn) (fits : TurnFits size t) where
   turned_by-fits definite (Ok (pieces.BadFormat code place)) p = went_on-fits (place + 1) 0 (omega arith) (omega arith)
   turned_by-fits definite (Err place) p = p
 
--- the turn at the end of a reading from a turn on, or the place of a bad byte
+-- the turn at the end of a reading from a turn on, or the place of a bad byte; neither stands before the turn's place
 unfoldable pub ReadFits : ℕ → Turn → Result Turn ℕ → Type 0
 ReadFits size t (Ok last) = TurnFits size last × (t.at ≤ last.at)
-ReadFits size t (Err place) = place ≤ size
+ReadFits size t (Err place) = (t.at ≤ place) × (place ≤ size)
 
 further : (size : ℕ) (t next : Turn) (r : Result Turn ℕ) → t.at ≤ next.at → ReadFits size next r → ReadFits size t r
 unfolding ReadFits
 further size t next (Ok last) h fits = (fits.0, omega (arith, fits.1))
-further size t next (Err place) h fits = fits
+further size t next (Err place) h fits = (omega (arith, fits.0), fits.1)
 
 module _ (answer : List ℕ) (bytes : AllBytes answer) (definite : Bool) (end : ℕ) where
   module _ (t : Turn) (fits : TurnFits (length answer) t) where
@@ -263,7 +263,7 @@ module _ (answer : List ℕ) (bytes : AllBytes answer) (definite : Bool) (end : 
   -- the reading from a turn on: its places lie in the answer, and not before the turn's
   pub turns_fit : (n : ℕ) (t : Turn) → TurnFits (length answer) t → ReadFits (length answer) t (turns_from n answer definite end t)
   unfolding ReadFits TurnedFits turns_from
-  turns_fit zero t fits = fits.inside
+  turns_fit zero t fits = (omega arith, fits.inside)
   turns_fit (suc n) t fits = go (turned answer definite end t) (turned_fits t fits) (λ next fits. turns_fit n next fits)
     where
       go : (r : Result (Option Turn) ℕ) → TurnedFits (length answer) t r
@@ -275,4 +275,4 @@ module _ (answer : List ℕ) (bytes : AllBytes answer) (definite : Bool) (end : 
           ])
       go (Ok (Some next)) after others = further (length answer) t next _ (omega (arith, after.1)) (others next after.0)
       go (Ok None) after others = (fits, omega arith)
-      go (Err place) after others = after.1
+      go (Err place) after others = after

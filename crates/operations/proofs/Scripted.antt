@@ -194,23 +194,23 @@ module _ (format : ℕ) (d : List ℕ) (os : List Operation) where
   template-script e h =
       eq_no format 0 _ e (ap (λ (k : ℕ). 0xAA ∷ (length_bytes k ++ all_written format d os)) (sym (all-length format 0 d os h)))
 
--- what the writer of a script is asked for gives it room: for the operations alone, or for their template
-module _ {format size : ℕ} {rows d memory : List ℕ} (asks : Writable format size rows d memory) where
-  compact_size_lem : format ≡ 0 → size ≡ script_size format size
+-- how many bytes a script has, by its format
+module _ (format n : ℕ) where
+  pub compact_size_lem : format ≡ 0 → n ≡ script_size format n
   unfolding script_size
   compact_size_lem e = eq_yes format 0 _ e refl
 
-  pub compact_room : format ≡ 0 → all_size format (operations_of rows) ≤ length memory
-  compact_room e = omega (arith, asks.sized, asks.room, compact_size_lem e)
-
-  template-size : format ≡ 1 → 1 + length (length_bytes size) + size ≡ script_size format size
+  pub template-size : (format ≡ 0 → ⊥) → 1 + length (length_bytes n) + n ≡ script_size format n
   unfolding script_size tlv_size
-  template-size e = eq_no format 0 _ (λ none. omega arith) refl
+  template-size e = eq_no format 0 _ e refl
+
+-- what the writer of a script is asked for gives it room: for the operations alone, or for their template
+module _ {format size : ℕ} {rows d memory : List ℕ} (asks : Writable format size rows d memory) where
+  pub compact_room : format ≡ 0 → all_size format (operations_of rows) ≤ length memory
+  compact_room e = omega (arith, asks.sized, asks.room, compact_size_lem format size e)
 
   pub template_room : format ≡ 1
       → (5 ≤ size) × (1 + length (length_bytes size) + size ≤ length memory) × (1 + length (length_bytes size) + size ≤ longest_script)
-  template_room e = (
-    omega (arith, asks.sized, size-some format rows asks.list),
-    omega (arith, asks.room, template-size e),
-    omega (arith, asks.short, template-size e),
-  )
+  template_room e =
+      let whole = template-size format size (λ none. omega arith) in
+      (omega (arith, asks.sized, size-some format rows asks.list), omega (arith, asks.room, whole), omega (arith, asks.short, whole))
