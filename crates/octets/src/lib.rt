@@ -76,8 +76,8 @@ pub fn all_zero(m: &[u8]) -> bool
     zero
 }
 
-// The three functions below count their places: over windows and pieces of slices a search for 200 of 254 bytes takes 1.46 times the
-// instructions that the second program takes, with `==` one for 32 bytes 2.11 times; so it is 1.24, and 1.25 is the limit.
+// The loops below count their places. A search for 200 of 254 bytes takes 1.33 times the second program's instructions with them, and 1.46
+// over windows and pieces of slices; one for 32 bytes 0.70 with them, and 2.09 with `==`. The limit is 1.25 (docs/LOOK-BACK.md).
 
 // Returns whether the n bytes of `d` from the place `from` on stand in `m` at the place `at`; all of them are compared.
 fn same_part(m: &[u8], at: usize, d: &[u8], from: usize, n: usize) -> bool
