@@ -118,6 +118,10 @@ pub starts_differs : (m d : List ℕ) (at : ℕ) → 0 < length d → (byte m at
 starts_differs m d at h e =
     sym (refuted (starts_with (drop at m) d) (λ q. e (ap (byte m) (sym (add-zero at)) ∙ sym (byte-part m at (length d) 0 h) ∙ ap (λ (l : List ℕ). byte l 0) (starts-true (drop at m) d q))))
 
+-- where the first bytes agree, those behind them tell
+pub starts_behind : (m d : List ℕ) (at : ℕ) → at < length m → 0 < length d → byte m at ≡ byte d 0 → starts_with (drop at m) d ≡ starts_with (drop (at + 1) m) (drop 1 d)
+starts_behind m d at h g e = starts_more true m d at 0 refl h g ∙ rw (eq-eqb (byte m at) (byte d 0) e)
+
 -- every run begins with the empty one, and none with a longer one
 pub starts_empty : (m d : List ℕ) → length d ≡ 0 → true ≡ starts_with m d
 unfolding starts_with

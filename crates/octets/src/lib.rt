@@ -76,8 +76,8 @@ pub fn all_zero(m: &[u8]) -> bool
     zero
 }
 
-// The loops below count their places. A search for 200 of 254 bytes takes 1.33 times the second program's instructions with them, and 1.46
-// over windows and pieces of slices; one for 32 bytes 0.70 with them, and 2.09 with `==`. The limit is 1.25 (docs/LOOK-BACK.md).
+// The loops below count their places: a search for 200 of 254 bytes takes 1.12 times the second program's instructions with them, and
+// 1.46 over windows and pieces of slices; one for 32 bytes 0.63 with them, and 2.09 with `==`. The limit is 1.25 (docs/LOOK-BACK.md).
 
 // Returns whether the n bytes of `d` from the place `from` on stand in `m` at the place `at`; all of them are compared.
 fn same_part(m: &[u8], at: usize, d: &[u8], from: usize, n: usize) -> bool
@@ -93,48 +93,31 @@ fn same_part(m: &[u8], at: usize, d: &[u8], from: usize, n: usize) -> bool
     same
 }
 
-// Returns whether the bytes of `m` from the place `at` on begin with `d`, compared `width` bytes at a time; at last come the final
-// `width` bytes of `d`.
-fn starts_by(m: &[u8], at: usize, d: &[u8], width: usize) -> bool
-    requires { (at + length d.now ≤ length m.now) × ((0 < width) × (width ≤ length d.now)) }
+// Returns whether the bytes of `m` from the place `at` on begin with `d`: most often the first byte tells; the others are compared WIDTH
+// at a time, and at last the final WIDTH bytes of `d`.
+fn starts_at<const WIDTH: usize>(m: &[u8], at: usize, d: &[u8]) -> bool
+    requires { (at + length d.now ≤ length m.now) × ((0 < WIDTH) × (WIDTH ≤ length d.now)) }
     ensures { result ≡ starts_with (drop at m.now) d.now }
 {
-    let last = d.len() - width;
-    let mut i: usize = 0;
-    while i < last {
-        if !same_part(m, at + i, d, i, width) {
-            return false;
-        }
-        i += width;
-    }
-    same_part(m, at + last, d, last, width)
-}
-
-// Returns whether the bytes of `m` from the place `at` on begin with `d`: most often the first byte tells.
-fn starts_at(m: &[u8], at: usize, d: &[u8]) -> bool
-    requires { at + length d.now ≤ length m.now }
-    ensures { result ≡ starts_with (drop at m.now) d.now }
-{
-    if d.len() == 0 {
-        return true;
-    }
     if m[at] != d[0] {
         return false;
     }
-    if d.len() >= 32 {
-        return starts_by(m, at, d, 32);
+    let last = d.len() - WIDTH;
+    let mut i: usize = 1;
+    while i < last {
+        if !same_part(m, at + i, d, i, WIDTH) {
+            return false;
+        }
+        i += WIDTH;
     }
-    if d.len() >= 8 {
-        return starts_by(m, at, d, 8);
-    }
-    if d.len() >= 4 {
-        return starts_by(m, at, d, 4);
-    }
-    starts_by(m, at, d, 1)
+    same_part(m, at + last, d, last, WIDTH)
 }
 
-// Returns whether `d` stands somewhere in `m`, in one piece; it is compared where it lies.
-pub fn within(m: &[u8], d: &[u8]) -> bool
+// Returns whether `d` stands somewhere in `m`, in one piece; it is compared WIDTH bytes at a time. Not taken inline: what stands around
+// the loops would leave them too few registers.
+#[inline(never)]
+fn stands<const WIDTH: usize>(m: &[u8], d: &[u8]) -> bool
+    requires { (0 < WIDTH) × (WIDTH ≤ length d.now) }
     ensures { result ≡ contains m.now d.now }
 {
     if m.len() < d.len() {
@@ -143,10 +126,25 @@ pub fn within(m: &[u8], d: &[u8]) -> bool
     let last = m.len() - d.len();
     let mut i: usize = 0;
     while i <= last {
-        if starts_at(m, i, d) {
+        if starts_at::<WIDTH>(m, i, d) {
             return true;
         }
         i += 1;
     }
     false
+}
+
+// Returns whether `d` stands somewhere in `m`, in one piece; it is compared where it lies. A range of lengths has a search of its own,
+// so that the compiler knows how many pieces there are at most; a command's data has 255 bytes at most.
+pub fn within(m: &[u8], d: &[u8]) -> bool
+    ensures { result ≡ contains m.now d.now }
+{
+    match d.len() {
+        0 => true,
+        1..=3 => stands::<1>(m, d),
+        4..=7 => stands::<4>(m, d),
+        8..=31 => stands::<8>(m, d),
+        32..=255 => stands::<32>(m, d),
+        _ => stands::<64>(m, d),
+    }
 }

