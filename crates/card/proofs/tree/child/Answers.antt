@@ -1,4 +1,5 @@
--- `card::tree::child` meets its contract: the entry that is found is the first that passes the test. Assumes nothing.
+-- `card::tree::child` meets its contract: the entry that is found is the first that passes the test, and what is given is that entry, in
+-- whichever form it is passed on. Assumes nothing.
 use mathlib.Core.Path.{◌≡◌, refl}
 use mathlib.Core.Bool.{Bool, true, false, not, ◌&&◌, ◌||◌}
 use Prim.Native.Nat.{ℕ, ◌<◌}
@@ -22,4 +23,5 @@ returns c =
     let here : (e : ℕ) → c.find.result ≡ Some e → (e < entries t) × (test e ≡ true) = grind (arith, common_steps, ranges) in
     let before : (e : ℕ) → c.find.result ≡ Some e → (k b : ℕ) → byte t k ≡ b → k < e → test k ≡ false = grind (arith, common_steps, ranges) in
     let none : c.find.result ≡ None → (k b : ℕ) → byte t k ≡ b → k < entries t → test k ≡ false = grind (arith, common_steps, ranges) in
-    first_told (entries t) test c.find.result here (λ e found k. before e found k (byte t k) refl) (λ found k. none found k (byte t k) refl)
+    let found = first_told (entries t) test c.find.result here (λ e found k. before e found k (byte t k) refl) (λ found k. none found k (byte t k) refl) in
+    grind (arith, common_steps, found)
