@@ -76,8 +76,8 @@ pub fn all_zero(m: &[u8]) -> bool
     zero
 }
 
-// The loops below count their places: a search for 200 of 254 bytes takes 1.12 times the second program's instructions with them, and
-// 1.46 over windows and pieces of slices; one for 32 bytes 0.63 with them, and 2.09 with `==`. The limit is 1.25 (docs/LOOK-BACK.md).
+// The loops below count their places: a search for 200 of 254 bytes takes 1.09 times the second program's instructions with them, and
+// 1.46 over windows and pieces of slices; one for 32 bytes 0.71 with them, and 2.09 with `==`. The limit is 1.25 (docs/LOOK-BACK.md).
 
 // Returns whether the n bytes of `d` from the place `from` on stand in `m` at the place `at`; all of them are compared.
 fn same_part(m: &[u8], at: usize, d: &[u8], from: usize, n: usize) -> bool
@@ -93,10 +93,10 @@ fn same_part(m: &[u8], at: usize, d: &[u8], from: usize, n: usize) -> bool
     same
 }
 
-// Returns whether the bytes of `m` from the place `at` on begin with `d`: most often the first byte tells; the others are compared WIDTH
-// at a time, and at last the final WIDTH bytes of `d`.
-fn starts_at<const WIDTH: usize>(m: &[u8], at: usize, d: &[u8]) -> bool
-    requires { (at + length d.now ≤ length m.now) × ((0 < WIDTH) × (WIDTH ≤ length d.now)) }
+// Returns whether the bytes of `m` from the place `at` on begin with `d`, of MOST bytes at most: most often the first byte tells; the
+// others are compared WIDTH at a time, and at last the final WIDTH bytes of `d`.
+fn starts_at<const WIDTH: usize, const MOST: usize>(m: &[u8], at: usize, d: &[u8]) -> bool
+    requires { (at + length d.now ≤ length m.now) × ((0 < WIDTH) × (WIDTH ≤ length d.now)) × (length d.now ≤ MOST) }
     ensures { result ≡ starts_with (drop at m.now) d.now }
 {
     if m[at] != d[0] {
@@ -113,20 +113,15 @@ fn starts_at<const WIDTH: usize>(m: &[u8], at: usize, d: &[u8]) -> bool
     same_part(m, at + last, d, last, WIDTH)
 }
 
-// Returns whether `d` stands somewhere in `m`, in one piece; it is compared WIDTH bytes at a time. Not taken inline: what stands around
-// the loops would leave them too few registers.
-#[inline(never)]
-fn stands<const WIDTH: usize>(m: &[u8], d: &[u8]) -> bool
-    requires { (0 < WIDTH) × (WIDTH ≤ length d.now) }
+// Returns whether `d`, of MOST bytes at most, stands somewhere in `m`, in one piece; it is compared WIDTH bytes at a time.
+fn stands<const WIDTH: usize, const MOST: usize>(m: &[u8], d: &[u8]) -> bool
+    requires { (0 < WIDTH) × ((WIDTH ≤ length d.now) × (length d.now ≤ length m.now)) × (length d.now ≤ MOST) }
     ensures { result ≡ contains m.now d.now }
 {
-    if m.len() < d.len() {
-        return false;
-    }
     let last = m.len() - d.len();
     let mut i: usize = 0;
     while i <= last {
-        if starts_at::<WIDTH>(m, i, d) {
+        if starts_at::<WIDTH, MOST>(m, i, d) {
             return true;
         }
         i += 1;
@@ -134,17 +129,29 @@ fn stands<const WIDTH: usize>(m: &[u8], d: &[u8]) -> bool
     false
 }
 
-// Returns whether `d` stands somewhere in `m`, in one piece; it is compared where it lies. A range of lengths has a search of its own,
-// so that the compiler knows how many pieces there are at most; a command's data has 255 bytes at most.
+// Returns what `stands` does, in code of its own: the code around it would leave the loops too few registers.
+#[inline(never)]
+fn stands_apart<const WIDTH: usize, const MOST: usize>(m: &[u8], d: &[u8]) -> bool
+    requires { (0 < WIDTH) × ((WIDTH ≤ length d.now) × (length d.now ≤ length m.now)) × (length d.now ≤ MOST) }
+    ensures { result ≡ contains m.now d.now }
+{
+    stands::<WIDTH, MOST>(m, d)
+}
+
+// Returns whether `d` stands somewhere in `m`, in one piece; it is compared where it lies. Each range of lengths has a search of its own,
+// so that the compiler knows how many pieces there are at most. Many bytes at many places repay a call; a command has 255 at most.
 pub fn within(m: &[u8], d: &[u8]) -> bool
     ensures { result ≡ contains m.now d.now }
 {
+    if m.len() < d.len() {
+        return false;
+    }
     match d.len() {
         0 => true,
-        1..=3 => stands::<1>(m, d),
-        4..=7 => stands::<4>(m, d),
-        8..=31 => stands::<8>(m, d),
-        32..=255 => stands::<32>(m, d),
-        _ => stands::<64>(m, d),
+        1..=3 => stands::<1, 3>(m, d),
+        4..=7 => stands::<4, 7>(m, d),
+        8..=31 => stands::<8, 31>(m, d),
+        97..=255 if m.len() - d.len() >= 8 => stands_apart::<32, 255>(m, d),
+        _ => stands::<32, { usize::MAX }>(m, d),
     }
 }

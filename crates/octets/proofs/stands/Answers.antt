@@ -2,11 +2,8 @@
 use mathlib.Core.Path.{refl, sym, ◌∙◌}
 use native.Mathlib.Omega.{arith}
 use lib.ListN.{length-drop}
-use Rattle.octets.proofs.Same.{starts-not, contains-short, contains-found, contains-goes_on, contains_ends}
+use Rattle.octets.proofs.Same.{starts-not, contains-found, contains-goes_on, contains_ends}
 use Rattle.octets.proofs.stands.Goals as goal
-
-pub returns-then-m-d : goal.returns-then-m-d
-returns-then-m-d g c = sym (contains-short _ _ c.if-m-d.true)
 
 pub loop-i-init : goal.loop-i-init
 loop-i-init g c = (omega arith, refl)

@@ -1,7 +1,10 @@
--- `octets::within` meets its contract: no bytes stand at once where any do. Assumes nothing.
+-- `octets::within` meets its contract: more bytes stand nowhere, and none stand at once. Assumes nothing.
 use mathlib.Core.Path.{refl, sym}
-use Rattle.octets.proofs.Same.{starts_empty, contains-found}
+use Rattle.octets.proofs.Same.{starts_empty, contains-found, contains-short}
 use Rattle.octets.proofs.within.Goals as goal
+
+pub returns-then-m-d : goal.returns-then-m-d
+returns-then-m-d c = sym (contains-short _ _ c.if-m-d.true)
 
 pub returns-in-0 : goal.returns-in-0
 returns-in-0 c =
