@@ -26,7 +26,7 @@
  * Power     Not safe against a cut yet: one in the middle of a call may leave a
  *           card that no take-back brings back. There is no repair so far; where
  *           power may go, make the call on a copy of the card.
- * Size      At most 3,368 bytes of stack; 23,909 bytes of code, and no writable
+ * Size      At most 3,360 bytes of stack; 22,132 bytes of code, and no writable
  *           data. docs/MEASURES.md has it call by call. The code needs memcpy and
  *           memset, and nothing else. */
 #ifndef RFM_H
